@@ -12,3 +12,4 @@ pub mod verbs
 pub mod lines
 pub mod balance
 pub mod awaiting
+pub mod ends

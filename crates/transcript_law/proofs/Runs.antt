@@ -14,6 +14,7 @@ use Rattle.transcript_law.proofs.invariant.Ranged.{IsRanged, start_ranged}
 use Rattle.transcript_law.proofs.Words.{StreamName}
 use Rattle.transcript_law.specs.Feeding.{HasFed}
 use Rattle.transcript_law.proofs.{invariant.ClientWorlds.{ConnsAre, start_conns}, invariant.Clients.{line_heard}, lines.Heard.{lines_heard}}
+use Rattle.transcript_law.proofs.ends.{Ended.{all_linked, line_ends, new_there}, Links.{AllLinked}}
 use Rattle.transcript_law.proofs.{answers.Rests.{all_answered}, answers.Ended.{group_ended, serves_open}, indexers.Beside.{numbered}, invariant.Begun.{ServesOpen}, indexers.Closing.{begins_of}}
 use Rattle.cluster_model.specs.Clusters as cluster
 use Rattle.transcript_law.specs.LawfulAnswers.{IsStill}
@@ -111,8 +112,8 @@ opens_told w r (c, a) = (λ n v vb known. (subst (AgreesAt r n v (c.nodes (seat 
         (flush_told_is shelf.is_closed shelf.flush (r.disk_at n v).flushing (c.disks (seat n v)).batch vb.flushed (place_of (c.disks (seat n v)).book).at x.flush, x.saved)
 
 -- all that is told
-as_told_of : (w : PlainWorld) (r : Chronicle) → ConnsAre w r.conn_at → IsRanged w → Agrees w r → AsTold w r
-as_told_of w r are ranged a = record { agrees = a; conns = are; ranged = ranged; rests = rests_told w r a; disks = opens_told w r a; shut = shut_told w r a; arms = arms_told w r a; dials = dials_told w r a }
+as_told_of : (w : PlainWorld) (r : Chronicle) → ConnsAre w r.conn_at → AllLinked w r.dial_of → IsRanged w → Agrees w r → AsTold w r
+as_told_of w r are linked ranged a = record { agrees = a; conns = are; linked = linked; ranged = ranged; rests = rests_told w r a; disks = opens_told w r a; shut = shut_told w r a; arms = arms_told w r a; dials = dials_told w r a }
 
 -- it is told of each vBucket that is sealed whether it changed
 seals_known : (w : PlainWorld) (r : Chronicle) (number : ℕ) (line : Verb) → AllTold w r → SealsKnown r line (verb_step w number line).1.answer
@@ -150,24 +151,25 @@ start_serves line e n c shut = let same : record { number = 0; served = λ m d. 
 pub refused_keep : RefusedLinesKeep
 refused_keep w number line why rests said standing = let x = (row_of w number line).keeps rests why said standing in (x.0.0, x.0.1, x.0.2, x.1)
 
-lawful_from : (w : PlainWorld) (r : Chronicle) (script : List ScriptLine) → ScriptFits script → IsRanged w → ConnsAre w r.conn_at → ServesOpen r.last r.conn_at → IsStill r → Agrees w r → LawfulGroups r script (groups_from w script)
+lawful_from : (w : PlainWorld) (r : Chronicle) (script : List ScriptLine) → ScriptFits script → IsRanged w → ConnsAre w r.conn_at → AllLinked w r.dial_of → ServesOpen r.last r.conn_at → IsStill r → Agrees w r → LawfulGroups r script (groups_from w script)
 unfolding world_step
-lawful_from w r [] fits ranged are serves calm a = tt
-lawful_from w r (line ∷ lines) fits ranged are serves calm a =
+lawful_from w r [] fits ranged are linked serves calm a = tt
+lawful_from w r (line ∷ lines) fits ranged are linked serves calm a =
     let fit = All-head (λ (x : ScriptLine). VerbFits x.verb) line lines fits in
     let outcome = verb_step w line.line line.verb in
     let row : Row w line.verb outcome = row_of w line.line line.verb in
     let r0 : Chronicle = at_line r line.line in let a0 : Agrees w r0 = numbered w r line.line a in
-    let told : AsTold w r0 = as_told_of w r0 are ranged a0 in
+    let told : AsTold w r0 = as_told_of w r0 are linked ranged a0 in
     let went = row.goes r0 fit ranged calm (begins_of w line.line line.verb r are serves a.1.clients.owed) a0 in let heard = line_heard r.conn_at w line.line are line.verb fit in
+    let judged = row.told r0 fit told in let ends = line_ends w r0 ranged a0 linked line.line line.verb judged.1 in
     let later : PlainWorld = with_branches outcome.1.events outcome.0 in
     let known : Chronicle = after_group r0 line.verb outcome.1.events outcome.1.answer in
     let later_ranged : IsRanged later = row.ranged fit ranged in
     let later_agrees : Agrees later known = group_agrees w r line.line line.verb fit ranged are serves calm a in (
       (
         lines_heard (ahead r0 line.verb outcome.1.answer) r.conn_at outcome.1.events went.0 heard.0,
-        row.bound r0 a0 (row.told r0 fit told).0,
-        (row.told r0 fit told).1,
+        row.bound r0 a0 judged.0,
+        judged.1,
         refl,
         λ why said standing. (row.keeps told.rests why said standing).1,
         hands_none r0 line.verb outcome.1.events outcome.1.answer (row.tells r0 told) (seals_known w r0 line.line line.verb told.disks),
@@ -176,10 +178,11 @@ lawful_from w r (line ∷ lines) fits ranged are serves calm a =
         all_answered later known later_agrees later_ranged heard.1,
         line_next w r0 line.line line.verb (row.tells r0 told),
         line_breaks w r0 ranged a0 line.line line.verb (row.tells r0 told),
+        ends.1,
       ),
-      lawful_from later known lines (All-tail (λ (x : ScriptLine). VerbFits x.verb) line lines fits) later_ranged heard.1 (group_serves r line.line line.verb outcome.1.events outcome.1.answer) (tt, refl) later_agrees,
+      lawful_from later known lines (All-tail (λ (x : ScriptLine). VerbFits x.verb) line lines fits) later_ranged heard.1 (all_linked w r line.line line.verb linked (new_there w r0 ranged a0 linked line.line line.verb) ends.0) (group_serves r line.line line.verb outcome.1.events outcome.1.answer) (tt, refl) later_agrees,
     )
 
 -- the transcript of a script is lawful
 pub lawful : (script : List ScriptLine) → ScriptFits script → Lawful script (groups script)
-lawful script fits = lawful_from empty_world empty_chronicle script fits start_ranged start_conns start_serves (tt, refl) start
+lawful script fits = lawful_from empty_world empty_chronicle script fits start_ranged start_conns (λ l d e. cc) start_serves (tt, refl) start

@@ -25,6 +25,8 @@ pub mod DownRows
 pub mod DurableSent
 pub mod Fitted
 pub mod FollowerRows
+pub mod EndRows
+pub mod Ended
 pub mod Followers
 pub mod AskedTests
 pub mod AskedRows

@@ -17,6 +17,7 @@ use Rattle.vb_types.specs.declared.change.Level.TheVariants as level
 use Rattle.vb_events.specs.declared.event.Answer.{Answer}
 use Rattle.vb_events.specs.declared.event.Answer.TheVariants as answer
 use Rattle.vb_events.specs.declared.event.Cause.TheVariants as cause
+use Rattle.vb_events.specs.declared.event.EndReason.TheVariants as reason
 use Rattle.vb_events.specs.declared.event.Event.{Event}
 use Rattle.vb_events.specs.declared.event.Event.TheVariants as event
 use Rattle.vb_events.specs.declared.event.Group.{Group}
@@ -177,7 +178,7 @@ abbrev pub log_after_crash : List ScriptLine
 log_after_crash = numbered 1 (verb.AtNode 1 (node_verb.Crash Old) ∷ verb.AtNode 1 (node_verb.Start []) ∷ verb.AtVb 1 0 vb_verb.Log ∷ [])
 
 abbrev pub log_after_crash_groups : List LogEntry → List Group
-log_after_crash_groups log = groups_from_number 1 (ok [] ∷ ok [] ∷ ok (event.Logged 1 0 log ∷ []) ∷ [])
+log_after_crash_groups log = groups_from_number 1 (ok (event.Ended 1 reason.Cut ∷ []) ∷ ok [] ∷ ok (event.Logged 1 0 log ∷ []) ∷ [])
 
 -- ---- vBuckets that come back
 

@@ -7,6 +7,8 @@ use Rattle.script_text.specs.declared.verb.NodeVerb.TheVariants as node_verb
 use Rattle.vb_disk.specs.declared.made.Outcome.TheVariants.{Old}
 use Rattle.vb_events.specs.declared.event.Answer.TheVariants as answer
 use Rattle.vb_events.specs.declared.event.Cause.{Cause}
+use Rattle.vb_events.specs.declared.event.EndReason.TheVariants as reason
+use Rattle.vb_events.specs.declared.event.Event.TheVariants as event
 use Rattle.vb_events.specs.declared.event.Group.{Group}
 use Rattle.transcript_law.specs.Chronicles.{Chronicle, after_crash, after_lines}
 use Rattle.transcript_law.specs.Crashes.{Said, crashed, numbered, ok, groups_from_number}
@@ -34,9 +36,9 @@ start_and_groups started next = crashed ∷ started ∷ next ∷ []
 abbrev pub begun_and_crashed : ℕ → Chronicle
 begun_and_crashed n = after_crash (after_lines (granted_inside 2) (marker_line 0 2 ∷ [])) n Old
 
--- what was read when that stream was let continue; a node crashes, and then this line of the link comes
+-- what was read when that stream was let continue; a node crashes, with which the link ends, and then this line of the link comes
 abbrev pub crash_under_link : ℕ → Verb → List ScriptLine
 crash_under_link n next = numbered 1 (verb.AtNode n (node_verb.Crash Old) ∷ next ∷ [])
 
 abbrev pub crash_under_link_groups : Said → List Group
-crash_under_link_groups next = groups_from_number 1 (ok [] ∷ next ∷ [])
+crash_under_link_groups next = groups_from_number 1 (ok (event.Ended 1 reason.Cut ∷ []) ∷ next ∷ [])

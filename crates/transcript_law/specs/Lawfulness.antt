@@ -37,6 +37,7 @@ use Rattle.transcript_law.specs.Takeovers.{NoTakeover}
 pub use Rattle.transcript_law.specs.Heirs.{IsFed, IsWriter, LawfulRole, stream_history}
 use Rattle.transcript_law.specs.Asked.{TellsAsAsked}
 use Rattle.transcript_law.specs.Undone.{LeavesNone}
+use Rattle.transcript_law.specs.Ends.{AllEnded}
 use Rattle.transcript_law.specs.{AnsweredWrites.{AllToldNext}, Breaks.{ClosesAsBroken}}
 use Rattle.transcript_law.specs.{Questions.{Question, question_of}, StreamsTold.{ClientsKnown}}
 use Rattle.transcript_law.specs.Unanswered.{AllAnswered, AsksDurably}
@@ -376,10 +377,10 @@ abbrev pub LinesFrom : Chronicle → Conns → List Event → Type 0
 LinesFrom chronicle conns [] = Unit {0}
 LinesFrom chronicle conns (line ∷ behind) = Heard conns line behind (LawfulLine chronicle line behind) × LinesFrom (after_line chronicle line) (conns_line conns line) behind
 
--- the group of a line of a script: its number, its lines, its answer, and what both say of arms that fired and of vBuckets that went back; one that was refused where it stood tells of nothing; none tells of anything else than its line may; each tells what its line asked for; none leaves undone what it is for; none leaves a client without an answer; behind each set and each removal its answer stands; and none closes a client's connection but where its bytes break off, or its node ends
+-- the group of a line of a script: its number, its lines, its answer, and what both say of arms that fired and of vBuckets that went back; one that was refused where it stood tells of nothing; none tells of anything else than its line may; each tells what its line asked for; none leaves undone what it is for; none leaves a client without an answer; behind each set and each removal its answer stands; none closes a client's connection but where its bytes break off, or its node ends; and none ends a link of which it does not tell so
 abbrev pub LawfulGroup : Chronicle → ScriptLine → Group → Type 0
 LawfulGroup chronicle line group =
-    LinesFrom (ahead chronicle line.verb group.answer) chronicle.conn_at group.events × IsAnswered chronicle line.verb group.events group.answer × FiresInLine chronicle line.verb group.events group.answer × (group.line ≡ line.line) × TellsIfBegun group.events group.answer × NoTakeover chronicle line.verb group.events group.answer × TellsAsAsked line.verb group.events group.answer × LeavesNone chronicle line.verb group.events group.answer × AllAnswered (after_group chronicle line.verb group.events group.answer) × AllToldNext group.events × ClosesAsBroken chronicle line.verb group.events
+    LinesFrom (ahead chronicle line.verb group.answer) chronicle.conn_at group.events × IsAnswered chronicle line.verb group.events group.answer × FiresInLine chronicle line.verb group.events group.answer × (group.line ≡ line.line) × TellsIfBegun group.events group.answer × NoTakeover chronicle line.verb group.events group.answer × TellsAsAsked line.verb group.events group.answer × LeavesNone chronicle line.verb group.events group.answer × AllAnswered (after_group chronicle line.verb group.events group.answer) × AllToldNext group.events × ClosesAsBroken chronicle line.verb group.events × AllEnded chronicle line.verb group.events group.answer
 
 -- the groups of the lines of a script that come next, one for each, read behind the number of its line
 abbrev pub LawfulGroups : Chronicle → List ScriptLine → List Group → Type 0

@@ -21,6 +21,8 @@ pub mod ClosedJournals
 pub mod Contrary
 pub mod Crashes
 pub mod Downs
+pub mod Ends
+pub mod EndRows
 pub mod FiredArms
 pub mod Firings
 pub mod Followers

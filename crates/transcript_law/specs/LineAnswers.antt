@@ -11,6 +11,7 @@ use Rattle.vb_events.specs.declared.event.Answer.{Answer}
 use Rattle.vb_events.specs.declared.event.Answer.TheVariants as answer
 use Rattle.vb_events.specs.declared.event.Event.{Event}
 use Rattle.vb_events.specs.declared.event.Event.TheVariants as event
+use Rattle.vb_events.specs.declared.event.Cause.{Cause}
 use Rattle.vb_events.specs.declared.event.Cause.TheVariants as cause
 use Rattle.branch_model.specs.Journals.{role_of}
 use Rattle.vb_types.specs.declared.journal.{Batch.{Batch}, Record.{Record}}
@@ -21,6 +22,8 @@ use Rattle.disk_journals.specs.Books.{below}
 use Rattle.vb_disk.specs.declared.fuse.Fuse.{Fuse}
 use Rattle.vb_disk.specs.declared.fuse.Fuse.TheVariants.{Off, Stop, Fail}
 use Rattle.transcript_law.specs.Clients.{ClientAnswer, IsCrashed}
+use Rattle.transcript_law.specs.LinesTold.{is_dial_for}
+use Rattle.transcript_law.specs.Ends.{Dials, NoneFor}
 pub use Rattle.transcript_law.specs.Pulls.{PutsAsTold, frames_in_lines, is_frame}
 use Rattle.transcript_law.specs.Chronicles.{Chronicle, Dial, DiskKnown, Taken, Written, calls_of_append, conns_lines, disks_of, is_rise, is_rollback, rollback_of, vb_numbers}
 
@@ -31,19 +34,39 @@ IsCarriedOut (answer.Number n) = ⊥
 IsCarriedOut (answer.Pulled n said) = ⊥
 IsCarriedOut (answer.No cause) = Unit {0}
 
--- so many bytes were moved, and no more than were asked for
-abbrev pub IsMoved : ℕ → Answer → Type 0
-IsMoved wanted answer.Ok = ⊥
-IsMoved wanted (answer.Number n) = n ≤ wanted
-IsMoved wanted (answer.Pulled n said) = ⊥
-IsMoved wanted (answer.No cause) = Unit {0}
+-- why a line over a link is refused, which this is told of: it is not dialed, or over, and nothing else
+abbrev pub IsOver : Option Dial → Cause → Type 0
+IsOver dial cause.LinkClosed = dial ≡ None
+IsOver dial other = ⊥
 
--- frames of streams were put
-abbrev pub IsPumped : ℕ → List Event → Answer → Type 0
-IsPumped wanted lines answer.Ok = ⊥
-IsPumped wanted lines (answer.Number n) = ⊥
-IsPumped wanted lines (answer.Pulled n said) = PutsAsTold wanted lines n said
-IsPumped wanted lines (answer.No cause) = Unit {0}
+-- over a link so many bytes were moved, and no more than were asked for
+abbrev pub IsMoved : Option Dial → ℕ → Answer → Type 0
+IsMoved dial wanted answer.Ok = ⊥
+IsMoved dial wanted (answer.Number n) = n ≤ wanted
+IsMoved dial wanted (answer.Pulled n said) = ⊥
+IsMoved dial wanted (answer.No why) = IsOver dial why
+
+-- frames of its streams were put
+abbrev pub IsPumped : Option Dial → ℕ → List Event → Answer → Type 0
+IsPumped dial wanted lines answer.Ok = ⊥
+IsPumped dial wanted lines (answer.Number n) = ⊥
+IsPumped dial wanted lines (answer.Pulled n said) = PutsAsTold wanted lines n said
+IsPumped dial wanted lines (answer.No why) = IsOver dial why
+
+-- it was cut
+abbrev pub IsCut : Option Dial → Answer → Type 0
+IsCut dial answer.Ok = Unit {0}
+IsCut dial (answer.Number n) = ⊥
+IsCut dial (answer.Pulled n said) = ⊥
+IsCut dial (answer.No why) = IsOver dial why
+
+-- the link l was dialed for the vBucket v of the node n: no link of that number was dialed that is not over, nor one for the vBucket; and it is refused as open only where one was. Any line may be refused for another cause
+abbrev pub IsLinked : Dials → ℕ → ℕ → ℕ → Answer → Type 0
+IsLinked dials l n v answer.Ok = (dials l ≡ None) × NoneFor dials n v
+IsLinked dials l n v (answer.Number count) = ⊥
+IsLinked dials l n v (answer.Pulled count said) = ⊥
+IsLinked dials l n v (answer.No cause.LinkOpen) = ((dial : Dial) × (dials l ≡ Some dial)) ⊎ ((k : ℕ) × (is_dial_for n v (dials k) ≡ true))
+IsLinked dials l n v (answer.No why) = Unit {0}
 
 -- so many were sealed of one vBucket: 1 where it changed since it was sealed last, took a marker, got a role or went back, and 0 where it did not. Of one that is pending it is not known whether it changed, as that may be sealed with no line, where another state pending comes
 abbrev pub SealsAs : Option (Option Role) → Bool → ℕ → Type 0
@@ -162,6 +185,17 @@ rollbacks_in_lines (line ∷ lines) = rollbacks_in_lines lines
 abbrev pub GoesBack : Back → List Event → Type 0
 GoesBack back lines = (what : ℕ × (ℕ × Record)) × (back ≡ Some what) × (rollbacks_in_lines lines ≡ what ∷ [])
 
+-- a line over a link that brings bytes to its consumer may be refused for its disk besides
+abbrev pub IsOverOrBroken : Option Dial → Cause → Type 0
+IsOverOrBroken dial cause.Closed = Unit {0}
+IsOverOrBroken dial cause.Disk = Unit {0}
+IsOverOrBroken dial cause.Stopped = Unit {0}
+IsOverOrBroken dial other = IsOver dial other
+
+abbrev pub IsOverIfNo : Option Dial → Answer → Type 0
+IsOverIfNo dial (answer.No why) = IsOverOrBroken dial why
+IsOverIfNo dial other = Unit {0}
+
 -- so many bytes were moved. Where the lines tell of a rollback it is the one for which the link's request had been sent back, once, and that could be written down; where they tell that a vBucket took its branch over, that could be, and none went back beside it. Or it could not, the answer says why, and no line tells that a vBucket went back
 abbrev pub IsTakenDown : ℕ → Back → Bool → Fuse → List Event → Answer → Type 0
 IsTakenDown wanted back closed f lines answer.Ok = ⊥
@@ -258,10 +292,10 @@ KindAnswer chronicle n v Takes lines said = IsTaken n v lines said
 KindAnswer chronicle n v Saves lines said = IsNotedAt chronicle n v said × IsAppended (chronicle.disk_at n v) said
 KindAnswer chronicle n v Counts lines said = IsSaved (chronicle.disk_at n v) said
 
--- a line of a script, after what was read, by the lines that its group has and by its answer; any may be refused. Each verb has a row of its own, here or in its kind
+-- a line of a script, after what was read, by the lines that its group has and by its answer. Each verb has a row of its own, here or in its kind
 abbrev pub LawfulAnswer : Chronicle → Verb → List Event → Answer → Type 0
 LawfulAnswer chronicle (verb.Node n) lines said = IsCarriedOut said
-LawfulAnswer chronicle (verb.Link l m n v buffer) lines said = IsCarriedOut said
+LawfulAnswer chronicle (verb.Link l m n v buffer) lines said = IsLinked chronicle.dial_of l n v said
 LawfulAnswer chronicle (verb.AtNode n (node_verb.Clock nanos)) lines said = IsCarriedOut said
 LawfulAnswer chronicle (verb.AtNode n (node_verb.Stop call out)) lines said = IsCarriedOut said
 LawfulAnswer chronicle (verb.AtNode n (node_verb.Fail call)) lines said = IsCarriedOut said
@@ -269,7 +303,7 @@ LawfulAnswer chronicle (verb.AtNode n (node_verb.Crash out)) lines said = IsCras
 LawfulAnswer chronicle (verb.AtNode n (node_verb.Start uuids)) lines said = IsStarted chronicle n uuids lines said
 LawfulAnswer chronicle (verb.AtVb n v what) lines said = KindAnswer chronicle n v (vb_kind what) lines said
 LawfulAnswer chronicle (verb.AtClient n c what) lines said = ClientAnswer (chronicle.conn_at n c) what lines said
-LawfulAnswer chronicle (verb.AtLink l (link_verb.Up wanted)) lines said = IsMoved wanted said
-LawfulAnswer chronicle (verb.AtLink l (link_verb.Down wanted)) lines said = IsTakenDown wanted (back_of chronicle l) (closed_of_dial chronicle (chronicle.dial_of l)) (arm_of_dial chronicle (chronicle.dial_of l)) lines said
-LawfulAnswer chronicle (verb.AtLink l (link_verb.Pump wanted)) lines said = IsPumped wanted lines said
-LawfulAnswer chronicle (verb.AtLink l link_verb.Cut) lines said = IsCarriedOut said
+LawfulAnswer chronicle (verb.AtLink l (link_verb.Up wanted)) lines said = IsMoved (chronicle.dial_of l) wanted said
+LawfulAnswer chronicle (verb.AtLink l (link_verb.Down wanted)) lines said = IsTakenDown wanted (back_of chronicle l) (closed_of_dial chronicle (chronicle.dial_of l)) (arm_of_dial chronicle (chronicle.dial_of l)) lines said × IsOverIfNo (chronicle.dial_of l) said
+LawfulAnswer chronicle (verb.AtLink l (link_verb.Pump wanted)) lines said = IsPumped (chronicle.dial_of l) wanted lines said
+LawfulAnswer chronicle (verb.AtLink l link_verb.Cut) lines said = IsCut (chronicle.dial_of l) said

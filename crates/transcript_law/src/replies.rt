@@ -104,7 +104,7 @@ pub fn judged_writes()
 /// A write is refused for its own reason alone: KeyEexists and KeyEnoent where the key's document, or that
 /// there is none, does not let it; SyncWriteInProgress where a prepare waits there; NotMyVbucket, and
 /// nothing else, where its vBucket is not active; and Etmpfail where an active one has no seqno left for it,
-/// beside one for each prepare that waits: the last is 2^48. One that is refused made no change.
+/// beside one for each prepare that waits, and no more: the last is 2^48. One that is refused made no change.
 pub fn judged_refused_writes()
     ensures fits { LawfulTo once (writes SET 1 7 4) (says SET status.KeyEexists ∷ []) → ⊥ }
     ensures unfit { LawfulTo once (writes SET 3 7 4) (says SET status.KeyEexists ∷ []) }
@@ -126,6 +126,7 @@ pub fn judged_refused_writes()
     ensures full { LawfulTo (set_at (2 ^ 48)) (writes SET 0 9 8) (says SET status.Etmpfail ∷ []) }
     ensures full_beside { LawfulTo (prepared_at (2 ^ 48 - 1)) (writes SET 0 7 4) (says SET status.Etmpfail ∷ []) }
     ensures full_early { LawfulTo (set_at (2 ^ 48 - 1)) (writes SET 0 9 8) (says SET status.Etmpfail ∷ []) → ⊥ }
+    ensures full_twice { LawfulTo (prepared_at (2 ^ 48 - 2)) (writes SET 0 7 4) (says SET status.Etmpfail ∷ []) → ⊥ }
     ensures full_first { LawfulTo [] (writes SET 0 7 8) (says SET status.Etmpfail ∷ []) → ⊥ }
     ensures made { LawfulTo [] (writes SET 0 7 8) (makes one_change ∷ says SET status.Etmpfail ∷ []) → ⊥ }
     ensures removed { LawfulTo once (removes 7) (makes removal ∷ says DELETE status.Etmpfail ∷ []) → ⊥ }

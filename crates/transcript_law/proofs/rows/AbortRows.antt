@@ -74,7 +74,7 @@ a_millisecond = omega arith
 
 pub behind : AbortsBehind 0 1000000 0
 behind = (
-  (tt, tt, refl, refl, λ w no standing. cc, refl, tt, tt, λ n c there. cc, tt, tt),
+  (tt, tt, refl, refl, λ w no standing. cc, refl, tt, tt, λ n c there. cc, tt, tt, (tt, tt)),
   (
     (
       (
@@ -101,6 +101,7 @@ behind = (
       λ n c there. cc,
       (λ own. cc, tt),
       tt,
+      (tt, tt),
     ),
     tt,
   ),

@@ -1,7 +1,9 @@
 -- writes that are refused, judged by hand
 use Rattle.std.proofs.Common.{true, false, List, [], ap, arith, inl, inr, refl, subst, sym, ℕ, ⊎_elim, ◌∙◌, ◌∷◌, ◌≡◌}
-use Rattle.std.specs.FinMap.{get}
-use Rattle.std.specs.Prelude.{◌⊎◌, ◌<◌, ◌≤◌, ◌+◌, ◌^◌, Option, Some, None, length}
+use Rattle.std.specs.FinMap.{get, get-empty}
+use Rattle.std.specs.Prelude.{◌⊎◌, ◌<◌, ◌≤◌, ◌+◌, ◌^◌, Bool, Option, Some, None, length}
+use Rattle.std.specs.Str.{bytes_eq}
+use Rattle.std.proofs.lemmas.Slice.Eq.{bytes_eq-Decides}
 unfoldable use Rattle.mcbp_dcp.specs.Messages.{read_of}
 unfoldable use Rattle.mcbp_dcp.specs.Rows.{frame_row}
 unfoldable use Rattle.mcbp_dcp.specs.Shapes.{shape_fault}
@@ -18,12 +20,13 @@ use Rattle.vb_calls.specs.Writes.{doc_refusal}
 use Rattle.branch_model.specs.Histories.{last_seq}
 use Rattle.durability.specs.Laws.{Waits}
 use Rattle.durability.specs.declared.waiting.Waiting.{Waiting}
-use Rattle.vb_types.proofs.Laws.{get-insert_same}
+use Rattle.vb_types.proofs.Laws.{get-insert_other, get-insert_same}
 use Rattle.vb_types.specs.Images.{Picture, image_of, nothing}
+use Rattle.vb_types.specs.Keys.{key_cmp}
 use Rattle.vb_types.specs.declared.change.Change.{Change}
 use Rattle.vb_types.specs.declared.change.Level.TheVariants.{Majority}
 use Rattle.vb_types.specs.declared.change.Pend.{Pend}
-use Rattle.vbucket.specs.Laws.{IsBacked}
+use Rattle.vbucket.specs.Laws.{Ascend, IsBacked}
 use Rattle.vb_types.specs.Statuses.{status_code}
 use Rattle.vb_types.specs.declared.doc.Doc.{Doc}
 use Rattle.vb_types.specs.declared.role.Role.{Role}
@@ -39,7 +42,7 @@ use Rattle.transcript_law.specs.Transcripts.{first_doc, one_change}
 use Rattle.transcript_law.proofs.rows.AnswerWrites.{no_made}
 use Rattle.transcript_law.proofs.rows.Answering.{asked_calm, asked_so, bare_bytes, bare_so, byte_at, response_of, stored_bytes}
 use Rattle.transcript_law.proofs.rows.ClientStreamVerdicts.{no_active}
-use Rattle.transcript_law.proofs.rows.NextRows.{left_none, nine_none, none_pending, none_stored, seven_pending, seven_there}
+use Rattle.transcript_law.proofs.rows.NextRows.{keys_differ, left_none, nine_none, none_pending, none_stored, seven_pending, seven_there}
 use Rattle.transcript_law.proofs.rows.WaitingKeys.{left_waits, nine_waits, own_waits, seven_free, waits}
 
 -- ---- why a write is refused
@@ -192,6 +195,28 @@ full_beside = (λ z. inl (record { question = _; next = refl; answer = reply_fra
 pub full_early : LawfulTo (set_at 281474976710655) (writes SET 0 9 8) (says SET status.Etmpfail ∷ []) → ⊥
 unfolding spelling frames_in first_frame frame_of read_of frame_row shape_fault request_of requirement_of
 full_early l = let (g, s, fits) = asked_so (l.0 refl) refl refl refl in ⊎_elim (λ r. ⊎_elim (λ d. let z : None ≡ Some r.0 = d in cc) (λ lacks. let n = none_waits (set_at 281474976710655) (left_none 281474976710655 (7 ∷ [])) 1 r.0 lacks in omega (arith, n)) (unfit_is r.2 refl (left_none 281474976710655 (7 ∷ []) (9 ∷ [])) (nine_none (first_doc 1 (8 ∷ []))))) (λ m. no_made m) fits
+
+-- where one prepare waits, each that is backed is that one, so no two seqnos that rise are
+one_waits : (n : ℕ) (key : List ℕ) (q : Pend) → get (image_of (prepared_at n)).pending key ≡ Some q → q.seq ≡ n
+one_waits n key q there = by (bytes_eq (9 ∷ []) key) refl
+  where
+    by : (b : Bool) → bytes_eq (9 ∷ []) key ≡ b → q.seq ≡ n
+    by true is =
+        let same : Some (record waits { seq = n }) ≡ Some q = sym (get-insert_same nothing.pending (9 ∷ []) (record waits { seq = n })) ∙ ap (λ k. get (image_of (prepared_at n)).pending k) ((bytes_eq-Decides (9 ∷ []) key).0 is) ∙ there in
+        let one : record waits { seq = n } ≡ q = cc in sym (ap (λ (p : Pend). p.seq) one)
+    by false off =
+        let none : None ≡ Some q = sym (get-empty key_cmp key) ∙ sym (get-insert_other nothing.pending (9 ∷ []) (record waits { seq = n }) key (λ e. let is : bytes_eq (9 ∷ []) key ≡ true = (bytes_eq-Decides (9 ∷ []) key).1 e in cc)) ∙ there in cc
+
+few_wait : (n : ℕ) (ws : List Waiting) → Ascend ws → ((w : Waiting) → Waits w ws → IsBacked (image_of (prepared_at n)) w) → length ws ≤ 1
+few_wait n [] rise backed = omega arith
+few_wait n (w ∷ []) rise backed = omega arith
+few_wait n (v ∷ w ∷ more) rise backed =
+    let p = backed v (inl refl) in let q = backed w (inr (inl refl)) in let low : v.seq < w.seq = rise.0.0 in
+    let first : v.seq ≡ n = sym p.2 ∙ one_waits n v.key p.0 p.1 in let then : w.seq ≡ n = sym q.2 ∙ one_waits n w.key q.0 q.1 in absurd (omega (arith, low, first, then))
+
+pub full_twice : LawfulTo (prepared_at 281474976710654) (writes SET 0 7 4) (says SET status.Etmpfail ∷ []) → ⊥
+unfolding spelling frames_in first_frame frame_of read_of frame_row shape_fault request_of requirement_of
+full_twice l = let (g, s, fits) = asked_so (l.0 refl) refl refl refl in ⊎_elim (λ r. ⊎_elim (λ d. let z : None ≡ Some r.0 = d in cc) (λ lacks. let n = few_wait 281474976710654 lacks.waiting lacks.ascend lacks.backed in let high = lacks.above in omega (arith, n, high)) (unfit_is r.2 refl (get-insert_other nothing.pending (9 ∷ []) (record waits { seq = 281474976710654 }) (7 ∷ []) (keys_differ 9 7 (λ e. omega (arith, e))) ∙ get-empty key_cmp (7 ∷ [])) (none_stored (7 ∷ [])))) (λ m. no_made m) fits
 
 pub full_first : LawfulTo [] (writes SET 0 7 8) (says SET status.Etmpfail ∷ []) → ⊥
 unfolding spelling frames_in first_frame frame_of read_of frame_row shape_fault request_of requirement_of

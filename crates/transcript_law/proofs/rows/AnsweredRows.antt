@@ -16,7 +16,7 @@ use Rattle.vb_types.specs.declared.role.Role.TheVariants.{Active}
 use Rattle.vb_types.specs.declared.status.Status.TheVariants as status
 use Rattle.script_text.specs.declared.verb.ClientVerb.TheVariants as client_verb
 use Rattle.script_text.specs.declared.verb.Verb.TheVariants as verb
-use Rattle.transcript_law.proofs.rows.{AnswerRefusals.{why_away}, Answering.{bare_so, first_number}, Groups.{AreParts, in_place, whole as whole_groups}, Sets.{heard_then}, Silent.{AreHeard, heard_all, heard_by, none_next, one_answered, shut_answered, silent_start}}
+use Rattle.transcript_law.proofs.rows.{AnswerRefusals.{why_away}, Answering.{bare_so, first_number}, Groups.{AreParts, in_place, Never, whole as whole_groups}, Sets.{heard_then}, Silent.{AreHeard, heard_all, heard_by, none_next, one_answered, shut_answered, silent_start}}
 use Rattle.transcript_law.specs.AnsweredRows.{brings, broken_bytes, durable_bytes, durable_frame, durable_refused, noop_answered, noop_bytes, noop_frame, response_bytes, sent_alone, sent_shut, set_bytes}
 use Rattle.transcript_law.specs.{ClientRows.{LawfulOpened, hangs, waits}, Crashes.{Said, groups_from_number, numbered, ok}, LawfulAnswers.{serving, FitsFrame, LawfulReply, IsStill}, Prefixes.{known_after}}
 use Rattle.transcript_law.specs.Questions.{Question, question_of}
@@ -134,7 +134,7 @@ from_opened : (lines : List Verb) (told : List Said) → in_place empty_chronicl
     → AreParts (behind [] []) (numbered 3 lines) (groups_from_number 3 told) → AreHeard (behind [] []) (numbered 3 lines) (groups_from_number 3 told) → LawfulOpened lines told
 from_opened lines told o parts heard =
     whole_groups empty_chronicle (numbered 1 (verb.Node 0 ∷ verb.AtClient 0 1 client_verb.Open ∷ lines)) (groups_from_number 1 (ok [] ∷ ok [] ∷ told)) o ((tt, tt, refl), ((tt, refl, refl), parts))
-    (heard_then _ _ _ _ _ refl silent_start (λ s. heard_then _ _ _ _ _ refl s (λ s. heard)))
+    (heard_then _ _ _ _ _ refl silent_start (λ s. heard_then _ _ _ _ _ refl s (λ s. heard))) (Never (λ l. refl))
 
 -- NOOP is answered so
 noop_lawful : (r : Chronicle) (k : Asking) (more : List Event) → question_of k ≡ Some (record { before = []; frame = noop_frame }) → k.settings ≡ no_settings → IsStill r → LawfulReply r 0 1 k (spelling (reply_frame (bare_answer NOOP status.Success 9))) more

@@ -1,7 +1,7 @@
 -- lines that do not tell what was asked for, judged by hand
 use Rattle.std.specs.Prelude.{◌≡◌, ◌∷◌, ◌++◌, ◌==◌, ◌&&◌, ◌||◌}
 use Rattle.transcript_law.proofs.Words.{ℕ, Bool, true, false, List, [], refl, sym, ◌∙◌, subst, arith, ⊎_elim, Option, Answer, Cause, Event, Role, Verb, VbVerb, Chronicle, nothing}
-use Rattle.transcript_law.proofs.rows.{AskedTests.{is_log, is_one_turn, is_show, is_stat}, Groups.{whole}, Silent.{shut_heard}, Transcripts.{as_made, shown}}
+use Rattle.transcript_law.proofs.rows.{AskedTests.{is_log, is_one_turn, is_show, is_stat}, Groups.{Never, whole}, Silent.{shut_heard}, Transcripts.{as_made, shown}}
 use Rattle.transcript_law.specs.Asked.{AreAmong, IsLogLine, IsShowLine, IsStatLine, RisesOn, TellsAsAsked, TellsOnce, TurnsTo, turns_in}
 use Rattle.transcript_law.specs.AskedRows.{NotDone, NotFailed, NotRefused, here, in_role, logged_here, one_active, shown_at}
 use Rattle.transcript_law.specs.BoundRows.{LawfulHere}
@@ -129,22 +129,22 @@ module _ (lines : List Event) where
 
 pub right_show : LawfulHere one_active (here VbVerb.Show) (shown_at 0 0 ∷ [], Answer.Ok)
 right_show = whole one_active (numbered 1 (here VbVerb.Show ∷ [])) (groups_from_number 1 ((shown_at 0 0 ∷ [], Answer.Ok) ∷ [])) refl
-    (((shown _ _ _ refl refl refl refl nothing refl refl as_made (λ _. refl) (λ _. refl), tt), tt, refl), tt) (shut_heard one_active (numbered 1 (here VbVerb.Show ∷ [])) (groups_from_number 1 ((shown_at 0 0 ∷ [], Answer.Ok) ∷ [])) (λ n c. refl) refl)
+    (((shown _ _ _ refl refl refl refl nothing refl refl as_made (λ _. refl) (λ _. refl), tt), tt, refl), tt) (shut_heard one_active (numbered 1 (here VbVerb.Show ∷ [])) (groups_from_number 1 ((shown_at 0 0 ∷ [], Answer.Ok) ∷ [])) (λ n c. refl) refl) (Never (λ l. refl))
 
 pub right_stat : LawfulHere one_active (here VbVerb.Stat) (stat_at 0 0 ∷ [], Answer.Ok)
 right_stat = whole one_active (numbered 1 (here VbVerb.Stat ∷ [])) (groups_from_number 1 ((stat_at 0 0 ∷ [], Answer.Ok) ∷ [])) refl
-    (((record { saved_as_known = refl; high_held = refl; flusher = omega arith; filled = omega arith }, tt), tt, refl), tt) (shut_heard one_active (numbered 1 (here VbVerb.Stat ∷ [])) (groups_from_number 1 ((stat_at 0 0 ∷ [], Answer.Ok) ∷ [])) (λ n c. refl) refl)
+    (((record { saved_as_known = refl; high_held = refl; flusher = omega arith; filled = omega arith }, tt), tt, refl), tt) (shut_heard one_active (numbered 1 (here VbVerb.Stat ∷ [])) (groups_from_number 1 ((stat_at 0 0 ∷ [], Answer.Ok) ∷ [])) (λ n c. refl) refl) (Never (λ l. refl))
 
 pub right_log : LawfulHere one_active (here VbVerb.Log) (logged_here ∷ [], Answer.Ok)
-right_log = whole one_active (numbered 1 (here VbVerb.Log ∷ [])) (groups_from_number 1 ((logged_here ∷ [], Answer.Ok) ∷ [])) refl (((refl, tt), tt, refl), tt) (shut_heard one_active (numbered 1 (here VbVerb.Log ∷ [])) (groups_from_number 1 ((logged_here ∷ [], Answer.Ok) ∷ [])) (λ n c. refl) refl)
+right_log = whole one_active (numbered 1 (here VbVerb.Log ∷ [])) (groups_from_number 1 ((logged_here ∷ [], Answer.Ok) ∷ [])) refl (((refl, tt), tt, refl), tt) (shut_heard one_active (numbered 1 (here VbVerb.Log ∷ [])) (groups_from_number 1 ((logged_here ∷ [], Answer.Ok) ∷ [])) (λ n c. refl) refl) (Never (λ l. refl))
 
 pub right_made : LawfulHere empty_chronicle (here (VbVerb.MakeActive 5)) (active_vb_lines 0 5, Answer.Ok)
 right_made = whole empty_chronicle (numbered 1 (here (VbVerb.MakeActive 5) ∷ [])) (groups_from_number 1 ((active_vb_lines 0 5, Answer.Ok) ∷ [])) refl
-    (((record { new = tt; newest = refl; last = refl; leaves = refl }, (record { another = λ e. cc; anew = λ e. made_here _ _ _ 5 refl refl refl; pending = λ e. cc }, tt)), (refl, tt), refl), tt) (shut_heard empty_chronicle (numbered 1 (here (VbVerb.MakeActive 5) ∷ [])) (groups_from_number 1 ((active_vb_lines 0 5, Answer.Ok) ∷ [])) (λ n c. refl) refl)
+    (((record { new = tt; newest = refl; last = refl; leaves = refl }, (record { another = λ e. cc; anew = λ e. made_here _ _ _ 5 refl refl refl; pending = λ e. cc }, tt)), (refl, tt), refl), tt) (shut_heard empty_chronicle (numbered 1 (here (VbVerb.MakeActive 5) ∷ [])) (groups_from_number 1 ((active_vb_lines 0 5, Answer.Ok) ∷ [])) (λ n c. refl) refl) (Never (λ l. refl))
 
 pub right_replica : LawfulHere empty_chronicle (here VbVerb.MakeReplica) (in_role 0 0 Role.Replica ∷ [], Answer.Ok)
 right_replica = whole empty_chronicle (numbered 1 (here VbVerb.MakeReplica ∷ [])) (groups_from_number 1 ((in_role 0 0 Role.Replica ∷ [], Answer.Ok) ∷ [])) refl
-    (((record { another = λ e. cc; anew = λ e. cc; pending = λ e. cc }, tt), (refl, tt), refl), tt) (shut_heard empty_chronicle (numbered 1 (here VbVerb.MakeReplica ∷ [])) (groups_from_number 1 ((in_role 0 0 Role.Replica ∷ [], Answer.Ok) ∷ [])) (λ n c. refl) refl)
+    (((record { another = λ e. cc; anew = λ e. cc; pending = λ e. cc }, tt), (refl, tt), refl), tt) (shut_heard empty_chronicle (numbered 1 (here VbVerb.MakeReplica ∷ [])) (groups_from_number 1 ((in_role 0 0 Role.Replica ∷ [], Answer.Ok) ∷ [])) (λ n c. refl) refl) (Never (λ l. refl))
 
 -- ---- the ids of a start
 

@@ -1,7 +1,7 @@
 -- connections of clients, judged by hand
 use Rattle.std.specs.Prelude.{◌≡◌, ◌∷◌, ◌==◌, ◌&&◌, if◌then◌else◌}
 use Rattle.transcript_law.proofs.Words.{ℕ, true, false, List, [], refl, arith, and_parts, None, Some, LawfulGroups, Answer, Cause, Event, Chronicle, Verb, NodeVerb, empty_chronicle}
-use Rattle.transcript_law.proofs.{rows.CrashRows.{stops}, rows.Groups.{AreParts, in_place, whole}, rows.Sets.{heard_then}, rows.Silent.{AreHeard, Silent, all_silent, heard_all, heard_by, here_answered, silent_heard, silent_start}}
+use Rattle.transcript_law.proofs.{rows.CrashRows.{stops}, rows.Groups.{AreParts, in_place, Never, whole}, rows.Sets.{heard_then}, rows.Silent.{AreHeard, Silent, all_silent, heard_all, heard_by, here_answered, silent_heard, silent_start}}
 use Rattle.transcript_law.specs.{ClientRows.{LawfulOpened, asks, breaks, closes, hangs, nooped, opens, refused, replies, sends, waits}, Clients.{AllClosed, IsOpened, IsReached}, Chronicles.{after_group, conns_lines}, Prefixes.{known_after}}
 use Rattle.transcript_law.specs.Crashes.{LawfulAfter, Said, numbered, ok, save_under, save_under_groups, stopped_behind, groups_from_number}
 unfoldable use Rattle.mcbp_dcp.specs.Messages.{read_of}
@@ -22,7 +22,7 @@ read = known_after empty_chronicle (numbered 1 (Verb.Node 0 ∷ opens 1 ∷ []))
 -- a transcript is lawful that is so from there on
 from_heard : (more : List Verb) (told : List Said) → in_place read (numbered 3 more) (groups_from_number 3 told) ≡ true → AreParts read (numbered 3 more) (groups_from_number 3 told) → (Silent read.clients_at → AreHeard read (numbered 3 more) (groups_from_number 3 told)) → LawfulOpened more told
 from_heard more told o l heard =
-    whole empty_chronicle (numbered 1 (Verb.Node 0 ∷ opens 1 ∷ more)) (groups_from_number 1 (ok [] ∷ ok [] ∷ told)) o ((tt, tt, refl), ((tt, refl, refl), l)) (heard_then _ _ _ _ _ refl silent_start (λ s. heard_then _ _ _ _ _ refl s heard))
+    whole empty_chronicle (numbered 1 (Verb.Node 0 ∷ opens 1 ∷ more)) (groups_from_number 1 (ok [] ∷ ok [] ∷ told)) o ((tt, tt, refl), ((tt, refl, refl), l)) (heard_then _ _ _ _ _ refl silent_start (λ s. heard_then _ _ _ _ _ refl s heard)) (Never (λ l. refl))
 
 -- where no client sends anything, none is left without an answer
 from_opened : (more : List Verb) (told : List Said) → (in_place read (numbered 3 more) (groups_from_number 3 told) && all_silent (numbered 3 more)) ≡ true → AreParts read (numbered 3 more) (groups_from_number 3 told) → LawfulOpened more told
@@ -46,7 +46,7 @@ in_front = from_opened (sends 1 ∷ []) (ok [] ∷ []) refl ((tt, refl, refl), t
 -- the group in which the connection closes
 breaks_off : LawfulGroups read (numbered 3 (breaks 1 ∷ [])) (groups_from_number 3 (ok (closes 0 1 ∷ []) ∷ []))
 unfolding spelling frames_in first_frame frame_of
-breaks_off = ((((refl, λ opened. refl), tt), refl, refl, refl, λ w no standing. cc, refl, tt, tt, here_answered read (breaks 1) (closes 0 1 ∷ []) Answer.Ok (λ n c e. rw e refl) refl refl, tt, λ e. record { fault = BadMagic; stands = refl; front = []; last = refl }), tt)
+breaks_off = ((((refl, λ opened. refl), tt), refl, refl, refl, λ w no standing. cc, refl, tt, tt, here_answered read (breaks 1) (closes 0 1 ∷ []) Answer.Ok (λ n c e. rw e refl) refl refl, tt, λ e. record { fault = BadMagic; stands = refl; front = []; last = refl }, (tt, tt)), tt)
 
 pub closed : LawfulOpened (breaks 1 ∷ []) (ok (closes 0 1 ∷ []) ∷ [])
 closed = (in_front.0, (in_front.1.0, breaks_off))
@@ -181,7 +181,7 @@ sent_closed l = not_both l.1.1.1.0.1
 
 pub closed_anew : LawfulOpened (breaks 1 ∷ opens 1 ∷ []) (ok (closes 0 1 ∷ []) ∷ ok [] ∷ [])
 unfolding spelling frames_in first_frame frame_of
-closed_anew = (in_front.0, (in_front.1.0, (breaks_off.0, ((tt, refl, refl, refl, λ w no standing. cc, refl, tt, tt, here_answered (after_group read (breaks 1) (closes 0 1 ∷ []) Answer.Ok) (opens 1) [] Answer.Ok (λ n c e. rw e refl) refl refl, tt, tt), tt))))
+closed_anew = (in_front.0, (in_front.1.0, (breaks_off.0, ((tt, refl, refl, refl, λ w no standing. cc, refl, tt, tt, here_answered (after_group read (breaks 1) (closes 0 1 ∷ []) Answer.Ok) (opens 1) [] Answer.Ok (λ n c e. rw e refl) refl refl, tt, tt, (tt, tt)), tt))))
 
 -- ---- nodes that stop
 

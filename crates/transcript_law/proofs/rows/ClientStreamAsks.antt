@@ -222,6 +222,7 @@ pieces = (
     here_answered (serving two (that_sent none (take 30 (requesting 0 all_changes)))) (sends_rest 30 (requesting 0 all_changes)) (asked all_changes ask_answer.Go) answer.Ok (λ n c e. rw e refl) refl refl,
     tt,
     λ e. cc,
+    (tt, tt),
   ),
   tt,
 )

@@ -33,7 +33,7 @@ use Rattle.vb_events.specs.declared.event.Why.TheVariants as why
 
 -- an idle pull is lawful where each stream is quiet
 idles : (changes : List Change) (known : ClientKnown) → known.asking.bytes ≡ [] → known.flow ≡ blank_flow → AllQuiet (at_line (serving changes known) 1) 0 known → LawfulPulled changes known idle
-idles changes known silent unflown quiet = ((tt, (refl, record { told = refl; most = omega arith; all = λ e. cc; only = λ e. absurd (omega (arith, e)) }), refl, refl, (λ w no standing. cc), refl, refl, (quiet, none_counted known (ap (λ (f : FlowKnown). f.bytes) unflown) (ap (λ (f : FlowKnown). lets_through f.window) unflown)), here_answered (serving changes known) pulls [] (answer.Pulled 0 why.Idle) (λ n c e. rw e refl) (none_of known.asking silent) (unbroken_of known.asking silent), tt, tt), tt)
+idles changes known silent unflown quiet = ((tt, (refl, record { told = refl; most = omega arith; all = λ e. cc; only = λ e. absurd (omega (arith, e)) }), refl, refl, (λ w no standing. cc), refl, refl, (quiet, none_counted known (ap (λ (f : FlowKnown). f.bytes) unflown) (ap (λ (f : FlowKnown). lets_through f.window) unflown)), here_answered (serving changes known) pulls [] (answer.Pulled 0 why.Idle) (λ n c e. rw e refl) (none_of known.asking silent) (unbroken_of known.asking silent), tt, tt, (tt, tt)), tt)
 
 -- of one stream it is enough that this one is
 one_quiet : (changes : List Change) (g : ClientStream) → IsQuiet (at_line (serving changes (with_streams (one g))) 1) 0 0 g → AllQuiet (at_line (serving changes (with_streams (one g))) 1) 0 (with_streams (one g))

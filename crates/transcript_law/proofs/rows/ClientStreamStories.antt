@@ -97,6 +97,7 @@ counted = (
     here_answered (serving two (with_streams (one granted))) pulls all_lines (answer.Pulled 4 why.Idle) (λ n c e. rw e refl) (none_of blank_now refl) (unbroken_of blank_now refl),
     tt,
     tt,
+    (tt, tt),
   ),
   tt,
 )
@@ -154,6 +155,7 @@ story = (
   here_answered (serving two blank_client) asks_first first_lines answer.Ok (λ n c e. rw e refl) refl refl,
   tt,
   λ e. cc,
+  (tt, tt),
 )
     ▹ (
       mark_put _ _ 0 0 2 granted _ refl refl refl refl refl two_next ▹ (refl, λ z. cc)
@@ -170,6 +172,7 @@ story = (
       here_answered story_asked pulls all_lines (answer.Pulled 4 why.Idle) (λ n c e. rw e refl) refl refl,
       tt,
       tt,
+      (tt, tt),
     )
     ▹ tt
 

@@ -82,6 +82,7 @@ tick_ask = (
     here_answered (serving two (that_sent none (requesting 0 all_changes))) ticks (asked all_changes ask_answer.Go) answer.Ok (λ n c e. rw e refl) refl refl,
     tt,
     tt,
+    (tt, tt),
   ),
   tt,
 )

@@ -34,6 +34,7 @@ waits_by seq changes streams rest one = (
     here_answered (saved_to seq (serving changes (with_streams streams))) pulls [] (answer.Pulled 0 why.WaitSaved) (λ n c e. rw e refl) (none_of (with_streams streams).asking refl) (unbroken_of (with_streams streams).asking refl),
     tt,
     tt,
+    (tt, tt),
   ),
   tt,
 )

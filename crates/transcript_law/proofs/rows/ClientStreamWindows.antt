@@ -78,6 +78,7 @@ full = (
     here_answered (serving two (with_window 100 100 [] none)) pulls [] (answer.Pulled 0 why.Full) (λ n c e. rw e refl) (none_of (with_window 100 100 [] none).asking refl) (unbroken_of (with_window 100 100 [] none).asking refl),
     tt,
     tt,
+    (tt, tt),
   ),
   tt,
 )

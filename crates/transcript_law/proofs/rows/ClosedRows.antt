@@ -1,7 +1,7 @@
 -- appends that close a journal, judged by hand
 use Rattle.std.specs.Prelude.{◌≡◌, ◌<◌, ◌≤◌, ◌∷◌}
 use Rattle.transcript_law.proofs.Words.{ℕ, Bool, true, false, List, [], refl, sym, ◌∙◌, arith, inl, ⊎_elim, list_any, Some, None, Cause, Chronicle, NodeVerb, Event, Role, Lawful, LawfulAnswer, LawfulGroups, next_change}
-use Rattle.transcript_law.proofs.{rows.CrashRows.{first, lawful_from_heard, lawful_from_made, no_role, cut_off, one_closed, read, taken}, rows.{Groups.{whole}, StoredRows.{made_stored}, NextRows.{second_next}, Sets.{heard_then, next_told, nine_sent, nine_then, seven_past}, Silent.{shut_heard, silent_heard}}}
+use Rattle.transcript_law.proofs.{rows.CrashRows.{first, lawful_from_heard, lawful_from_made, no_role, cut_off, one_closed, read, taken}, rows.{Groups.{Quiet, whole}, StoredRows.{made_stored}, NextRows.{second_next}, Sets.{heard_then, next_told, nine_sent, nine_then, seven_past}, Silent.{shut_heard, silent_heard}}}
 use Rattle.transcript_law.specs.ClosedJournals.{back_line, dead_after_start, dead_after_start_groups, dialed_for, down_under, down_under_groups, fails_down, follow_after_crash, follow_after_crash_groups, follow_line, found_closed, save_again, save_again_groups, save_given_up, save_given_up_groups, save_none, save_none_groups, save_twice, save_twice_groups, sent_back_for, sent_back_under}
 use Rattle.transcript_law.specs.Crashes.{LawfulAfter, branch_line, dead_line, dead_under, dead_under_groups, failed_behind, numbered, ok, groups_from_number}
 use Rattle.transcript_law.specs.{BoundRows.{LawfulHere}, Chronicles.{Idle, Taken, after_group, at_line, is_rise}, Downs.{refused}, LineAnswers.{Back, IsBack, IsOwed}}
@@ -108,32 +108,32 @@ started_ok lines l = is_shut l.1.1.1.1.1.1.1.0.1.0
 -- a rollback
 
 pub back : LawfulAnswer (sent_back_for false) (verb.AtLink 1 (link_verb.Down 10)) (back_line ∷ []) (answer.Number 10)
-back = (omega arith, λ e. ((_, refl, refl), (refl, tt)), λ e. cc)
+back = ((omega arith, λ e. ((_, refl, refl), (refl, tt)), λ e. cc), tt)
 
 pub back_stands : LawfulAnswer (sent_back_for true) (verb.AtLink 1 (link_verb.Down 10)) (back_line ∷ []) (answer.Number 10) → ⊥
-back_stands l = is_shut (l.1 refl).1.0
+back_stands l = is_shut (l.0.1 refl).1.0
 
 pub back_passes : LawfulAnswer (sent_back_under (Fail 5)) (verb.AtLink 1 (link_verb.Down 10)) (back_line ∷ []) (answer.Number 10)
-back_passes = (omega arith, λ e. ((_, refl, refl), (refl, omega arith)), λ e. cc)
+back_passes = ((omega arith, λ e. ((_, refl, refl), (refl, omega arith)), λ e. cc), tt)
 
 pub back_failed : (k : ℕ) → k ≤ 4 → LawfulAnswer (sent_back_under (Fail k)) (verb.AtLink 1 (link_verb.Down 10)) (back_line ∷ []) (answer.Number 10) → ⊥
-back_failed k few l = let passed : 4 < k = (l.1 refl).1.1 in omega (arith, few, passed)
+back_failed k few l = let passed : 4 < k = (l.0.1 refl).1.1 in omega (arith, few, passed)
 
 pub back_stopped : (k : ℕ) → k ≤ 4 → LawfulAnswer (sent_back_under (Stop k)) (verb.AtLink 1 (link_verb.Down 10)) (back_line ∷ []) (answer.Number 10) → ⊥
-back_stopped k few l = let passed : 4 < k = (l.1 refl).1.1 in omega (arith, few, passed)
+back_stopped k few l = let passed : 4 < k = (l.0.1 refl).1.1 in omega (arith, few, passed)
 
 pub back_shut : LawfulAnswer (sent_back_for true) (verb.AtLink 1 (link_verb.Down 10)) [] (answer.No cause.Closed)
-back_shut = (refl, inl (_, refl), refl)
+back_shut = ((refl, inl (_, refl), refl), tt)
 
 pub back_closed : LawfulAnswer (sent_back_for false) (verb.AtLink 1 (link_verb.Down 10)) [] (answer.No cause.Closed) → ⊥
-back_closed l = is_shut (sym l.0)
+back_closed l = is_shut (sym l.0.0)
 
 pub back_refused : (closed : Bool) (why : Cause) → LawfulAnswer (sent_back_for closed) (verb.AtLink 1 (link_verb.Down 10)) (back_line ∷ []) (answer.No why) → ⊥
-back_refused closed why l = is_shut l.2
+back_refused closed why l = is_shut l.0.2
 
 pub back_fails : LawfulGroups (sent_back_for false) (down_under (verb.AtNode 1 (node_verb.Fail 1))) (down_under_groups fails_down)
-back_fails = whole (sent_back_for false) (down_under (verb.AtNode 1 (node_verb.Fail 1))) (down_under_groups fails_down) refl ((tt, tt, refl), (((omega arith, ((_, refl), tt)), ((refl, (omega arith, omega arith)), inl (_, refl), refl), refl), tt))
-    (shut_heard (sent_back_for false) (down_under (verb.AtNode 1 (node_verb.Fail 1))) (down_under_groups fails_down) (λ n c. refl) refl)
+back_fails = whole (sent_back_for false) (down_under (verb.AtNode 1 (node_verb.Fail 1))) (down_under_groups fails_down) refl ((tt, tt, refl), (((omega arith, ((_, refl), tt)), (((refl, (omega arith, omega arith)), inl (_, refl), refl), tt), refl), tt))
+    (shut_heard (sent_back_for false) (down_under (verb.AtNode 1 (node_verb.Fail 1))) (down_under_groups fails_down) (λ n c. refl) refl) (Quiet refl)
 
 -- where the link was not sent back there is none
 
@@ -149,13 +149,13 @@ abbrev behind : NodeVerb → Chronicle
 behind arm = at_line (after_group (at_line (dialed_for false) 1) (verb.AtNode 1 arm) [] answer.Ok) 2
 
 pub unsent_failed : (lines : List Event) → LawfulGroups (dialed_for false) (down_under (verb.AtNode 1 (node_verb.Fail 1))) (down_under_groups (lines, answer.No cause.Disk)) → ⊥
-unsent_failed lines l = unowed lines l.1.0.1.1 (no_rise (behind (node_verb.Fail 1)) 1 10 lines l.1.0.5)
+unsent_failed lines l = unowed lines l.1.0.1.0.1 (no_rise (behind (node_verb.Fail 1)) 1 10 lines l.1.0.5)
 
 pub unsent_stopped : (lines : List Event) → LawfulGroups (dialed_for false) (down_under (verb.AtNode 1 (node_verb.Stop 1 Old))) (down_under_groups (lines, answer.No cause.Stopped)) → ⊥
-unsent_stopped lines l = unowed lines l.1.0.1.1 (no_rise (behind (node_verb.Stop 1 Old)) 1 10 lines l.1.0.5)
+unsent_stopped lines l = unowed lines l.1.0.1.0.1 (no_rise (behind (node_verb.Stop 1 Old)) 1 10 lines l.1.0.5)
 
 pub unsent_closed : (lines : List Event) → LawfulHere (dialed_for true) (verb.AtLink 1 (link_verb.Down 10)) (lines, answer.No cause.Closed) → ⊥
-unsent_closed lines l = unowed lines l.0.1.1 (no_rise (at_line (dialed_for true) 1) 1 10 lines l.0.5)
+unsent_closed lines l = unowed lines l.0.1.0.1 (no_rise (at_line (dialed_for true) 1) 1 10 lines l.0.5)
 
 pub unsent_back : (closed : Bool) → LawfulAnswer (dialed_for closed) (verb.AtLink 1 (link_verb.Down 10)) (back_line ∷ []) (answer.Number 10) → ⊥
-unsent_back closed l = let b = (l.1 refl).0 in none_back (b.0, b.1)
+unsent_back closed l = let b = (l.0.1 refl).0 in none_back (b.0, b.1)

@@ -2,7 +2,7 @@
 use Rattle.std.specs.Prelude.{◌≡◌, ◌∷◌, ◌++◌}
 use Rattle.transcript_law.proofs.Words.{ℕ, false, List, [], length, map, refl, ap, sym, ◌∙◌, ⊎_elim, arith, Change, Option, Some, None, if◌then◌else◌, is_older, nat_list_cmp_total, key_cmp, Pend, Doc, Event, LogEntry, Role, Picture}
 use Rattle.transcript_law.proofs.Words.{image_of, front, uuid_of, kept_to, with_entry, option_map, Chronicle, empty_chronicle, after_line, log_of, made_from, after_both, shown_lines, Lawful, LawfulLine, LawfulFrom}
-use Rattle.transcript_law.proofs.{Words.{one_change, log_lines, made_log, empty_shown, after_dead, first_doc, change_line}, invariant.Tables.{at_here}, rows.Transcripts.{no_entries}, rows.Rollbacks.{known_role}, rows.Groups.{both_stored}, rows.StoredRows.{made_stored}, rows.NextRows.{first_next, second_next}, rows.Sets.{first_told, heard_then, seven_then}, rows.Silent.{silent_heard, silent_start}, invariant.Waiting.{made_by}}
+use Rattle.transcript_law.proofs.{Words.{one_change, log_lines, made_log, empty_shown, after_dead, first_doc, change_line}, invariant.Tables.{at_here}, rows.Transcripts.{no_entries}, rows.Rollbacks.{known_role}, rows.Groups.{both_stored, Never}, rows.StoredRows.{made_stored}, rows.NextRows.{first_next, second_next}, rows.Sets.{first_told, heard_then, seven_then}, rows.Silent.{silent_heard, silent_start}, invariant.Waiting.{made_by}}
 use Rattle.transcript_law.specs.Contrary.{set_and_sealed, sealed_groups, later_held, next_made, prepare_change, after_prepare, prepare_shown, prepare_lines, after_back, taken_log, refused_ask_lines, after_follow, after_promote, second_held, third_below, third_held}
 use Rattle.vb_types.specs.declared.change.Level.TheVariants.{Majority, MajorityPersistActive, PersistMajority}
 use Rattle.vb_types.specs.declared.change.Act.TheVariants as act
@@ -149,7 +149,7 @@ back_known told n v named to log e = at_here told.log_at n v (option_map (kept_t
 -- a vBucket that is sealed twice behind a change
 pub seals_twice : Lawful set_and_sealed (sealed_groups 1 0)
 seals_twice = both_stored empty_chronicle set_and_sealed (sealed_groups 1 0) refl (tt, (tt, ((record { new = tt; newest = refl; last = refl; leaves = refl }, (record { another = λ e. cc; anew = λ e. made_here _ _ _ 5 refl refl refl; pending = λ e. cc }, tt)), ((search (arith, first_next), ((refl, λ z. first_told _ _ _ refl refl refl), tt)), (tt, (tt, tt)))))) (tt, (refl, ((refl, tt), (refl, (refl, (refl, tt)))))) (refl, (refl, (refl, (refl, (refl, (refl, tt))))))
-    (heard_then _ _ _ _ _ refl silent_start (λ s. heard_then _ _ _ _ _ refl s (λ s. heard_then _ _ _ _ _ refl s (λ s. seven_then _ 4 4 5 _ one_change _ _ refl refl s (λ s e. silent_heard _ _ _ s refl))))) (tt, (tt, (tt, (made_stored 5 1 one_change refl, (tt, (tt, tt))))))
+    (heard_then _ _ _ _ _ refl silent_start (λ s. heard_then _ _ _ _ _ refl s (λ s. heard_then _ _ _ _ _ refl s (λ s. seven_then _ 4 4 5 _ one_change _ _ refl refl s (λ s e. silent_heard _ _ _ s refl))))) (tt, (tt, (tt, (made_stored 5 1 one_change refl, (tt, (tt, tt)))))) (Never (λ l. refl))
 
 first_byte : List ℕ → ℕ
 first_byte [] = 0

@@ -3,7 +3,7 @@ use Rattle.transcript_law.specs.{Chronicles.{alone}, Majorities.{IsHeldByMost}}
 use Rattle.std.specs.Prelude.{◌≡◌, ◌<◌, ◌≤◌, ◌∷◌, ◌==◌, ◌&&◌, if◌then◌else◌}
 use Rattle.transcript_law.proofs.Words.{ℕ, Bool, true, false, List, [], refl, ap, sym, ◌∙◌, subst, arith, inl, ⊎_elim, and_parts, eqb-true, ne_eqb, Option, Some, None, Event, Answer, Role, front, uuid_of, Chronicle}
 use Rattle.transcript_law.proofs.Words.{empty_chronicle, Lawful, LawfulFrom, LawfulGroups, LawfulAnswer, nothing, image_of, one_change, next_change, log_of, made_log}
-use Rattle.transcript_law.proofs.{links.PumpAnswers.{two_numbers}, rows.NextRows.{nine_next, resolving_next, second_next}, rows.Transcripts.{first_change, shown, as_made, as_set}, rows.Groups.{AreParts, AreStored, all_stored, in_order, in_place, none_stored, whole, whole_stored}, rows.StoredRows.{made_stored}, rows.DurableSent.{durably_sent, gone_by, prepare_sent, waits_by}, rows.Sets.{first_told, heard_then, next_told, nine_then, seven_past, seven_then}, rows.Silent.{AreHeard, Silent, all_silent, shut_heard, silent_heard, silent_start, twice_silent}}
+use Rattle.transcript_law.proofs.{links.PumpAnswers.{two_numbers}, rows.NextRows.{nine_next, resolving_next, second_next}, rows.Transcripts.{first_change, shown, as_made, as_set}, rows.Groups.{all_stored, AreParts, AreStored, in_order, in_place, Never, none_stored, Told, whole, whole_stored}, rows.Ended.{one_cut}, rows.StoredRows.{made_stored}, rows.DurableSent.{durably_sent, gone_by, prepare_sent, waits_by}, rows.Sets.{first_told, heard_then, next_told, nine_then, seven_past, seven_then}, rows.Silent.{AreHeard, Silent, all_silent, shut_heard, silent_heard, silent_start, twice_silent}}
 use Rattle.transcript_law.specs.Firings.{FiresAsSaid}
 use Rattle.transcript_law.proofs.rows.Sets.{blank_after}
 use Rattle.mcbp_frame.specs.Spelling.{spelling}
@@ -42,7 +42,7 @@ pub lawful_from_heard : (more : List Verb) (told : List Said) → in_order read 
     → (Silent read.clients_at → (read.clients_at 0 1).asking ≡ blank_after 1 → AreHeard read (numbered 5 more) (groups_from_number 5 told)) → AreStored (groups_from_number 5 told) → LawfulAfter more told
 lawful_from_heard more told o l heard stored = whole_stored empty_chronicle (one_made more) (one_made_groups told) o
     ((tt, tt, refl), ((tt, refl, refl), (((record { new = tt; newest = refl; last = refl; leaves = refl }, (record { another = λ e. cc; anew = λ e. made_here _ _ _ 5 refl refl refl; pending = λ e. cc }, tt)), (refl, tt), refl), (((first_change _ _ _ _ _, ((refl, λ z. first_told _ _ _ refl refl refl), tt)), refl, refl), l))))
-    (heard_then _ _ _ _ _ refl silent_start (λ s. heard_then _ _ _ _ _ refl s (λ s. heard_then _ _ _ _ _ refl s (λ s. seven_then _ 4 4 5 _ one_change _ _ refl refl s heard)))) (tt, (tt, (tt, (made_stored 5 1 one_change refl, stored))))
+    (heard_then _ _ _ _ _ refl silent_start (λ s. heard_then _ _ _ _ _ refl s (λ s. heard_then _ _ _ _ _ refl s (λ s. seven_then _ 4 4 5 _ one_change _ _ refl refl s heard)))) (tt, (tt, (tt, (made_stored 5 1 one_change refl, stored)))) (Never (λ l. refl))
 
 -- where no client sends more, none is left without an answer
 pub lawful_from_made : (more : List Verb) (told : List Said) → (in_place read (numbered 5 more) (groups_from_number 5 told) && all_silent (numbered 5 more)) ≡ true → AreParts read (numbered 5 more) (groups_from_number 5 told) → LawfulAfter more told
@@ -275,7 +275,7 @@ replica_active : ◌≡◌ {A = Option Role} (Some Role.Replica) (Some Role.Acti
 replica_active e = cc
 
 pub cut_log : LawfulGroups after_noted_back log_after_crash (log_after_crash_groups (log_of 5))
-cut_log = whole after_noted_back log_after_crash (log_after_crash_groups (log_of 5)) refl ((tt, (λ c. refl), refl), ((tt, ((λ v e. absurd (replica_active e)), tt), refl), (((refl, tt), tt, refl), tt))) (shut_heard after_noted_back log_after_crash (log_after_crash_groups (log_of 5)) (λ n c. refl) refl)
+cut_log = whole after_noted_back log_after_crash (log_after_crash_groups (log_of 5)) refl ((((_, refl), tt), (λ c. refl), refl), ((tt, ((λ v e. absurd (replica_active e)), tt), refl), (((refl, tt), tt, refl), tt))) (shut_heard after_noted_back log_after_crash (log_after_crash_groups (log_of 5)) (λ n c. refl) refl) (Told ((one_cut 1, tt), ((tt, tt), ((tt, tt), tt))))
 
 pub cut_log_back : LawfulGroups after_noted_back log_after_crash (log_after_crash_groups made_log) → ⊥
 cut_log_back l = let e : ◌≡◌ {A = ℕ} 5 7 = ap (λ es. uuid_of (front es)) l.1.1.0.0.0 in omega arith
@@ -435,13 +435,13 @@ commits_other l =
     two_numbers 1 2 (omega arith) (sym (ap (λ (p : Pend). p.seq) same ∙ x.2))
 
 pub unmade : Lawful (made_under 1 New) (made_under_groups (ok []) ([], answer.No cause.UnknownVb))
-unmade = whole empty_chronicle (made_under 1 New) (made_under_groups (ok []) ([], answer.No cause.UnknownVb)) refl ((tt, tt, refl), ((tt, tt, refl), (((record { new = tt; newest = refl; last = refl; leaves = refl }, (record { another = λ e. cc; anew = λ e. made_here _ _ _ 5 refl refl refl; pending = λ e. cc }, (omega arith, tt))), (refl, (omega arith, omega arith)), refl), ((tt, (λ c. refl), refl), ((tt, ((λ v e. either_way v (λ t. absurd (no_role Role.Active (rw t at e))) (λ f. absurd (no_role Role.Active (rw f at e)))), tt), refl), ((tt, tt, refl), tt)))))) (silent_heard empty_chronicle (made_under 1 New) (made_under_groups (ok []) ([], answer.No cause.UnknownVb)) silent_start refl)
+unmade = whole empty_chronicle (made_under 1 New) (made_under_groups (ok []) ([], answer.No cause.UnknownVb)) refl ((tt, tt, refl), ((tt, tt, refl), (((record { new = tt; newest = refl; last = refl; leaves = refl }, (record { another = λ e. cc; anew = λ e. made_here _ _ _ 5 refl refl refl; pending = λ e. cc }, (omega arith, tt))), (refl, (omega arith, omega arith)), refl), ((tt, (λ c. refl), refl), ((tt, ((λ v e. either_way v (λ t. absurd (no_role Role.Active (rw t at e))) (λ f. absurd (no_role Role.Active (rw f at e)))), tt), refl), ((tt, tt, refl), tt)))))) (silent_heard empty_chronicle (made_under 1 New) (made_under_groups (ok []) ([], answer.No cause.UnknownVb)) silent_start refl) (Never (λ l. refl))
 
 pub unmade_shown : (said : Role) (uuid : ℕ) → Lawful (made_under 1 New) (made_under_groups (ok []) (none_shown said uuid)) → ⊥
 unmade_shown said uuid l = no_role said l.1.1.1.1.1.0.0.0.role
 
 pub late : Lawful (made_under 4 New) (made_under_groups (restarted 0) (none_shown Role.Active 7))
-late = whole empty_chronicle (made_under 4 New) (made_under_groups (restarted 0) (none_shown Role.Active 7)) refl ((tt, tt, refl), ((tt, tt, refl), (((record { new = tt; newest = refl; last = refl; leaves = refl }, (record { another = λ e. cc; anew = λ e. made_here _ _ _ 5 refl refl refl; pending = λ e. cc }, (omega arith, tt))), (refl, (omega arith, omega arith)), refl), ((tt, (λ c. refl), refl), (((record { new = (λ e. omega arith, tt); newest = refl; last = refl; leaves = refl }, tt), ((λ v e. first v (branch_line 0 0 ∷ []) (λ f. no_role Role.Active (rw f at e)) (inl (refl, refl))), tt), refl), (((shown _ _ _ refl refl refl refl nothing refl refl as_made (λ _. refl) (λ _. refl), tt), tt, refl), tt)))))) (silent_heard empty_chronicle (made_under 4 New) (made_under_groups (restarted 0) (none_shown Role.Active 7)) silent_start refl)
+late = whole empty_chronicle (made_under 4 New) (made_under_groups (restarted 0) (none_shown Role.Active 7)) refl ((tt, tt, refl), ((tt, tt, refl), (((record { new = tt; newest = refl; last = refl; leaves = refl }, (record { another = λ e. cc; anew = λ e. made_here _ _ _ 5 refl refl refl; pending = λ e. cc }, (omega arith, tt))), (refl, (omega arith, omega arith)), refl), ((tt, (λ c. refl), refl), (((record { new = (λ e. omega arith, tt); newest = refl; last = refl; leaves = refl }, tt), ((λ v e. first v (branch_line 0 0 ∷ []) (λ f. no_role Role.Active (rw f at e)) (inl (refl, refl))), tt), refl), (((shown _ _ _ refl refl refl refl nothing refl refl as_made (λ _. refl) (λ _. refl), tt), tt, refl), tt)))))) (silent_heard empty_chronicle (made_under 4 New) (made_under_groups (restarted 0) (none_shown Role.Active 7)) silent_start refl) (Never (λ l. refl))
 
 pub late_shown : (said : Role) (uuid : ℕ) → Lawful (made_under 4 Old) (made_under_groups (ok []) (none_shown said uuid)) → ⊥
 late_shown said uuid l = no_role said l.1.1.1.1.1.0.0.0.role

@@ -1,7 +1,7 @@
 -- lines for a node that is down, and over a link that ended with its node, judged by hand
 use Rattle.std.specs.Prelude.{◌≡◌, ◌<◌, ◌∷◌, ◌++◌}
 use Rattle.transcript_law.proofs.Words.{ℕ, true, false, List, [], refl, inl, ⊎_elim, arith, Event, Role, LawfulFrom, LawfulGroups, granted_inside}
-use Rattle.transcript_law.proofs.{rows.CrashRows.{first, lawful_from_made, no_role, cut_off, one_closed}, rows.Followers.{begun, next_covers}, rows.Groups.{whole}, rows.Silent.{shut_heard}}
+use Rattle.transcript_law.proofs.{rows.CrashRows.{first, lawful_from_made, no_role, cut_off, one_closed}, rows.Followers.{begun, next_covers}, rows.Ended.{one_cut}, rows.Groups.{Told, whole}, rows.Silent.{shut_heard}}
 use Rattle.transcript_law.specs.Crashes.{LawfulAfter, Said, ok, branch_line, restarted}
 use Rattle.transcript_law.specs.Downs.{refused, crash_and, crash_and_groups, start_and, start_and_groups, begun_and_crashed, crash_under_link, crash_under_link_groups}
 use Rattle.transcript_law.specs.Followers.{next_change, next_item_line}
@@ -94,8 +94,8 @@ pub of_consumer : LawfulFrom (begun_and_crashed 1) (next_item_line ∷ []) → �
 of_consumer l = let (g, b, (v, is, has), opens, last, next) = l.0 in cc
 
 pub closed : LawfulGroups (granted_inside 2) (crash_under_link 0 (verb.AtLink 1 (link_verb.Pump 9))) (crash_under_link_groups (refused cause.LinkClosed))
-closed = whole (granted_inside 2) (crash_under_link 0 (verb.AtLink 1 (link_verb.Pump 9))) (crash_under_link_groups (refused cause.LinkClosed)) refl ((tt, (λ c. refl), refl), ((tt, (refl, inl refl), refl), tt))
-    (shut_heard (granted_inside 2) (crash_under_link 0 (verb.AtLink 1 (link_verb.Pump 9))) (crash_under_link_groups (refused cause.LinkClosed)) (λ n c. refl) refl)
+closed = whole (granted_inside 2) (crash_under_link 0 (verb.AtLink 1 (link_verb.Pump 9))) (crash_under_link_groups (refused cause.LinkClosed)) refl ((((_, refl), tt), (λ c. refl), refl), ((tt, (refl, inl refl), refl), tt))
+    (shut_heard (granted_inside 2) (crash_under_link 0 (verb.AtLink 1 (link_verb.Pump 9))) (crash_under_link_groups (refused cause.LinkClosed)) (λ n c. refl) refl) (Told ((one_cut 0, tt), ((tt, tt), tt)))
 
 pub pumps : (next : Said) → (next.1 ≡ answer.No cause.LinkClosed → ⊥) → LawfulGroups (granted_inside 2) (crash_under_link 0 (verb.AtLink 1 (link_verb.Pump 9))) (crash_under_link_groups next) → ⊥
 pumps next other l = ⊎_elim other (λ x. x) l.1.0.1.1

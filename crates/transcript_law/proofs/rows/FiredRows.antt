@@ -1,7 +1,7 @@
 -- what a group tells of arms that fired and of rollbacks, judged by hand
 use Rattle.std.specs.Prelude.{◌≡◌, ◌<◌, ◌≤◌, ◌∷◌}
 use Rattle.transcript_law.proofs.Words.{ℕ, false, List, [], refl, ap, arith, inl, Option, Some, None, Answer, Event, Role}
-use Rattle.transcript_law.proofs.{rows.CrashRows.{fails, first, lawful_from_made, no_role, cut_off, one_closed, passed, stops}, rows.Groups.{whole}, rows.Silent.{silent_heard}}
+use Rattle.transcript_law.proofs.{rows.CrashRows.{fails, first, lawful_from_made, no_role, cut_off, one_closed, passed, stops}, rows.Groups.{Quiet, whole}, rows.Silent.{silent_heard}}
 use Rattle.transcript_law.specs.ClosedJournals.{back_line, dialed_for}
 use Rattle.transcript_law.specs.Crashes.{LawfulAfter, branch_line, failed_behind, numbered, ok, save_under, save_under_groups, stopped_behind, groups_from_number}
 use Rattle.transcript_law.specs.{FiredArms.{LawfulNext, both_sent_back, other_back, seal_under, seal_under_groups, start_short, start_under, start_under_groups, stopped_starting, two_armed, two_armed_groups}, Firings.{FiresAsSaid, writes_at}, Lawfulness.{LawfulRoll}, LineAnswers.{GoesBack, back_of}}
@@ -153,10 +153,10 @@ roll_other : LawfulRoll both_sent_back 1 1 1 0
 roll_other = ((2, 0, refl, refl), record { saved = refl; below = omega arith; farthest = λ n s most. omega (arith, s) })
 
 pub own : LawfulNext (verb.AtLink 1 (link_verb.Down 10)) (back_line ∷ [], answer.Number 10)
-own = whole both_sent_back (numbered 1 (verb.AtLink 1 (link_verb.Down 10) ∷ [])) (groups_from_number 1 ((back_line ∷ [], answer.Number 10) ∷ [])) refl (((roll_one, tt), (omega arith, λ e. ((_, refl, refl), (refl, tt)), λ e. cc), refl), tt) (silent_heard both_sent_back (numbered 1 (verb.AtLink 1 (link_verb.Down 10) ∷ [])) (groups_from_number 1 ((back_line ∷ [], answer.Number 10) ∷ [])) (λ n c. refl) refl)
+own = whole both_sent_back (numbered 1 (verb.AtLink 1 (link_verb.Down 10) ∷ [])) (groups_from_number 1 ((back_line ∷ [], answer.Number 10) ∷ [])) refl (((roll_one, tt), ((omega arith, λ e. ((_, refl, refl), (refl, tt)), λ e. cc), tt), refl), tt) (silent_heard both_sent_back (numbered 1 (verb.AtLink 1 (link_verb.Down 10) ∷ [])) (groups_from_number 1 ((back_line ∷ [], answer.Number 10) ∷ [])) (λ n c. refl) refl) (Quiet refl)
 
 pub other_own : LawfulNext (verb.AtLink 2 (link_verb.Down 10)) (other_back ∷ [], answer.Number 10)
-other_own = whole both_sent_back (numbered 1 (verb.AtLink 2 (link_verb.Down 10) ∷ [])) (groups_from_number 1 ((other_back ∷ [], answer.Number 10) ∷ [])) refl (((roll_other, tt), (omega arith, λ e. ((_, refl, refl), (refl, tt)), λ e. cc), refl), tt) (silent_heard both_sent_back (numbered 1 (verb.AtLink 2 (link_verb.Down 10) ∷ [])) (groups_from_number 1 ((other_back ∷ [], answer.Number 10) ∷ [])) (λ n c. refl) refl)
+other_own = whole both_sent_back (numbered 1 (verb.AtLink 2 (link_verb.Down 10) ∷ [])) (groups_from_number 1 ((other_back ∷ [], answer.Number 10) ∷ [])) refl (((roll_other, tt), ((omega arith, λ e. ((_, refl, refl), (refl, tt)), λ e. cc), tt), refl), tt) (silent_heard both_sent_back (numbered 1 (verb.AtLink 2 (link_verb.Down 10) ∷ [])) (groups_from_number 1 ((other_back ∷ [], answer.Number 10) ∷ [])) (λ n c. refl) refl) (Quiet refl)
 
 -- what is told is what the link waits for
 same_one : (x y what : ℕ × (ℕ × Record)) → Some x ≡ Some what → y ∷ [] ≡ what ∷ [] → x ≡ y
@@ -167,13 +167,13 @@ of_another : GoesBack (back_of both_sent_back 1) (other_back ∷ []) → ⊥
 of_another b = let n : ◌≡◌ {A = ℕ} 0 1 = ap (λ (back : ℕ × (ℕ × Record)). back.1.0) (same_one _ _ b.0 b.1 b.2) in omega arith
 
 pub another : LawfulNext (verb.AtLink 1 (link_verb.Down 10)) (other_back ∷ [], answer.Number 10) → ⊥
-another l = of_another (l.0.1.1 refl).0
+another l = of_another (l.0.1.0.1 refl).0
 
 pub both : LawfulNext (verb.AtLink 1 (link_verb.Down 10)) (back_line ∷ other_back ∷ [], answer.Number 10) → ⊥
-both l = let b = (l.0.1.1 refl).0 in cc
+both l = let b = (l.0.1.0.1 refl).0 in cc
 
 pub again : LawfulNext (verb.AtLink 1 (link_verb.Down 10)) (back_line ∷ back_line ∷ [], answer.Number 10) → ⊥
-again l = let b = (l.0.1.1 refl).0 in cc
+again l = let b = (l.0.1.0.1 refl).0 in cc
 
 -- any other line tells of none, whatever it is answered
 fires_of_none : (at : Option ℕ) (said : Answer) → FiresAsSaid at (back_line ∷ []) said → ⊥

@@ -4,7 +4,7 @@ use Rattle.transcript_law.proofs.Words.{ℕ, is_some, List, [], length, map, tak
 use Rattle.transcript_law.proofs.Words.{nat_list_cmp_total, key_cmp, Change, Pend, Event, LogEntry, Continue, Roll, Rises, IsIn, Picture, image_of, is_older, last_seq, StandsAs, IsOf, front, uuid_of, Covers, Branch}
 use Rattle.transcript_law.proofs.Words.{Role, rises_in, document_line, prepare_line, image_lines, ItemLine, Begun, Granted, Dial, Chronicle, granted, is_dial_of, empty_chronicle, after_lines, item_of_change}
 use Rattle.transcript_law.proofs.Words.{IsMarker, IsNextItem, LawfulAsk, LawfulMark, LawfulItem, LawfulFrom, Lawful, frames_in_lines, first_doc, one_change, two_followed, next_change, log_of, ask_within}
-use Rattle.transcript_law.proofs.{Words.{granted_inside, after_both, made_from, marker_line, first_item_line, both_sent_lines}, rows.Transcripts.{no_entries, docs}, rows.AskedTests.{is_asked_so}, rows.Groups.{AreFired, AreTold, all_stored, both_left, is_answered_so, is_unclosed, none_stored}, rows.StoredRows.{made_stored}, rows.NextRows.{first_next, second_next}, rows.Sets.{first_told, heard_then, next_told, nine_sent, nine_then, seven_past, seven_then}, rows.Silent.{silent_heard, silent_start}}
+use Rattle.transcript_law.proofs.{Words.{granted_inside, after_both, made_from, marker_line, first_item_line, both_sent_lines}, rows.Transcripts.{no_entries, docs}, rows.AskedTests.{is_asked_so}, rows.Ended.{is_quiet}, rows.Groups.{all_stored, AreFired, AreTold, both_left, fired_all, is_answered_so, is_unclosed, none_stored}, rows.StoredRows.{made_stored}, rows.NextRows.{first_next, second_next}, rows.Sets.{first_told, heard_then, next_told, nine_sent, nine_then, seven_past, seven_then}, rows.Silent.{silent_heard, silent_start}}
 use Rattle.{std.specs.List.{list_any}, branch_model.proofs.Lists.{last_in}, std.proofs.Common.{◌⊎◌}, std.specs.Prelude.{Bool, true, false}, transcript_law.specs.Followers.{ask_above, ask_lines, other_ask_lines, late_ask_lines, granted_lines}}
 use Rattle.transcript_law.specs.Followers.{adopted_lines, stranger_lines, ended_lines, both_got, again_got, followed_groups, dialed_elsewhere, made_dead, replica_ask_lines, made_ask_lines, set_item_line, next_item_line}
 use Rattle.{transcript_law.specs.Tellings.{TellsOf, are_told, at_link, at_vb, is_of_end}, transcript_law.specs.LineAnswers.{IsCarriedOut}, transcript_law.specs.Followers.{show_answer, replica_shown, two_docs, third_doc, ask_groups, answered_so, adopted_so, sent_so, got_so, shown_so}, transcript_law.specs.Chronicles.{at_line, is_rollback}, transcript_law.specs.Lawfulness.{IsFrontOf, IsStream}, transcript_law.specs.Prefixes.{known_after}}
@@ -169,17 +169,23 @@ shows_left : (read : Chronicle) (shown : List Event) → LeavesNone read (verb.A
 shows_left read [] = tt
 shows_left read (line ∷ lines) = tt
 
+-- and ends no link
+quiet_show : (shown : List Event) → is_quiet (verb.AtVb 1 0 vb_verb.Show) (show_answer shown) ≡ true
+quiet_show [] = refl
+quiet_show (line ∷ lines) = refl
+
 from_asked : (asked adopted sent got shown : List Event) → frames_in_lines sent < 9 → none_stored (drop 8 (followed_groups asked adopted sent got shown)) ≡ true → (is_unclosed asked ≡ true) × (is_unclosed adopted ≡ true) × (is_unclosed sent ≡ true) × (is_unclosed got ≡ true) × (is_unclosed shown ≡ true) → (list_any is_rollback adopted ≡ true → ⊥) → (list_any is_rollback got ≡ true → ⊥) → StaysSo (followed_groups asked adopted sent got shown) → AskedSo asked adopted sent got shown → AreTold before_asked (drop 8 two_followed) (drop 8 (followed_groups asked adopted sent got shown))
     → AreFired before_asked (drop 8 two_followed) (drop 8 (followed_groups asked adopted sent got shown)) → (let told = followed_groups asked adopted sent got shown in
     (list_any is_taking adopted ≡ true → AllAcknowledged (after_lines (at_line (behind 9 told) 10) adopted) 1) × (list_any is_taking got ≡ true → AllAcknowledged (after_lines (at_line (behind 11 told) 12) got) 1)) → Lawful two_followed (followed_groups asked adopted sent got shown)
 from_asked asked adopted sent got shown few none shut straight sound so told_so l f acks = let told = followed_groups asked adopted sent got shown in both_left empty_chronicle two_followed (followed_groups asked adopted sent got shown)
     (λ i. told_so.0 (is_of_end (at_line before_asked 9)) i && (shut.0 i && (told_in (behind 9 told) 10 (link_verb.Down 1000) adopted so.0 told_so.1 i && (shut.1 i && (told_in (behind 10 told) 11 (link_verb.Pump 9) sent so.1 told_so.2 i && (shut.2 i && (told_in (behind 11 told) 12 (link_verb.Down 1000) got so.2 told_so.3 i && (shut.3 i && (shows_so shown i && (told_so.4 (is_of_end (at_line (behind 12 told) 13)) i && (told_so.5 i && (shut.4 i && true))))))))))))
     (tt ▹ tt ▹ tt ▹ (record { new = tt; newest = refl; last = refl; leaves = refl } ▹ record { another = λ e. cc; anew = λ e. made_here _ _ _ 5 refl refl refl; pending = λ e. cc } ▹ tt) ▹ (record { another = λ e. cc; anew = λ e. cc; pending = λ e. cc } ▹ tt) ▹ (search (arith, first_next) ▹ (refl, λ z. first_told _ _ _ refl refl refl) ▹ tt) ▹ (search (arith, second_next) ▹ (refl, λ z. next_told _ _ _ (nine_sent (once_set.clients_at 0 1) seven_past) refl refl) ▹ tt) ▹ tt ▹ l)
-    (tt ▹ tt ▹ refl ▹ (refl ▹ tt) ▹ (refl ▹ tt) ▹ refl ▹ refl ▹ tt ▹ omega arith ▹ unbound (behind 9 told) (verb.AtLink 1 (link_verb.Down 1000)) adopted (answer.Number 100) (ap if_over so.0) (omega arith, λ e. absurd (straight e), λ e. absurd (level_in (behind 9 told) 10 adopted so.0 told_so.1 e)) ▹ unbound (behind 10 told) (verb.AtLink 1 (link_verb.Pump 9)) sent (answer.Pulled (frames_in_lines sent) why.Full) (ap if_over so.1) (record { told = refl; most = omega (arith, few); all = λ e. cc; only = λ e. absurd (omega (arith, few, e)) }) ▹ unbound (behind 11 told) (verb.AtLink 1 (link_verb.Down 1000)) got (answer.Number 100) (ap if_over so.2) (omega arith, λ e. absurd (sound e), λ e. absurd (level_in (behind 11 told) 12 got so.2 told_so.3 e)) ▹ unbound (behind 12 told) (verb.AtVb 1 0 vb_verb.Show) shown (show_answer shown) (ap if_down so.3) (carried shown) ▹ tt)
+    (tt ▹ tt ▹ refl ▹ (refl ▹ tt) ▹ (refl ▹ tt) ▹ refl ▹ refl ▹ (refl ▹ (λ k. refl)) ▹ omega arith ▹ unbound (behind 9 told) (verb.AtLink 1 (link_verb.Down 1000)) adopted (answer.Number 100) (ap if_over so.0) ((omega arith, λ e. absurd (straight e), λ e. absurd (level_in (behind 9 told) 10 adopted so.0 told_so.1 e)), tt) ▹ unbound (behind 10 told) (verb.AtLink 1 (link_verb.Pump 9)) sent (answer.Pulled (frames_in_lines sent) why.Full) (ap if_over so.1) (record { told = refl; most = omega (arith, few); all = λ e. cc; only = λ e. absurd (omega (arith, few, e)) }) ▹ unbound (behind 11 told) (verb.AtLink 1 (link_verb.Down 1000)) got (answer.Number 100) (ap if_over so.2) ((omega arith, λ e. absurd (sound e), λ e. absurd (level_in (behind 11 told) 12 got so.2 told_so.3 e)), tt) ▹ unbound (behind 12 told) (verb.AtVb 1 0 vb_verb.Show) shown (show_answer shown) (ap if_down so.3) (carried shown) ▹ tt)
     (refl ▹ refl ▹ refl ▹ refl ▹ refl ▹ refl ▹ refl ▹ refl ▹ f)
     (tt ▹ tt ▹ tt ▹ tt ▹ tt ▹ tt ▹ tt ▹ tt ▹ (λ z. tt, λ t. tt) ▹ (λ z. tt, acks.0) ▹ tt ▹ (λ z. tt, acks.1) ▹ shows_left (behind 12 told) shown ▹ tt)
     (heard_then _ _ _ _ _ refl silent_start (λ s. heard_then _ _ _ _ _ refl s (λ s. heard_then _ _ _ _ _ refl s (λ s. heard_then _ _ _ _ _ refl s (λ s. heard_then _ _ _ _ _ refl s (λ s. seven_then _ 6 6 5 _ one_change _ _ refl refl s (λ s e. nine_then _ 7 7 5 _ next_change _ _ refl e s (λ s e. silent_heard _ _ _ s refl))))))))
     (tt, (tt, (tt, (tt, (tt, (made_stored 5 1 one_change refl, (made_stored 5 2 next_change refl, (tt, all_stored (drop 8 (followed_groups asked adopted sent got shown)) none))))))))
+    (fired_all empty_chronicle two_followed (followed_groups asked adopted sent got shown) (λ i. quiet_show shown i && true) (refl ▹ refl ▹ refl ▹ refl ▹ refl ▹ refl ▹ refl ▹ refl ▹ f))
 
 -- the request of the empty replica is granted, and the log is taken over
 own_request : (l : Option LastLine) → LawfulAsk (record before_asked { last = l }) 1 0 0 (ask_above 0 0) 2 (log_of 5) ask_answer.Go

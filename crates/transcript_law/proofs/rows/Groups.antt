@@ -10,6 +10,7 @@ use Rattle.script_text.specs.declared.verb.LinkVerb.TheVariants as link_verb
 use Rattle.script_text.specs.declared.verb.NodeVerb.TheVariants as node_verb
 use Rattle.transcript_law.proofs.rows.AskedTests.{asked_so, is_asked_so}
 use Rattle.transcript_law.proofs.verbs.Handing.{SealsKnown, hands_none}
+use Rattle.transcript_law.proofs.rows.Ended.{AreEnded, Undialed, all_quiet, dials_none, is_quiet, quiet_ended, undialed_ended}
 unfoldable use Rattle.transcript_law.proofs.rows.Silent.{AreHeard}
 use Rattle.transcript_law.proofs.lines.Stored.{is_settled, settled_next}
 use Rattle.transcript_law.specs.{AnsweredWrites.{AllToldNext}, Breaks.{AllBreak, ClosesAsBroken, is_closing}, StreamsTold.{ClientsKnown}}
@@ -145,13 +146,13 @@ in_line chronicle (line ∷ lines) (group ∷ groups) =
     group.line == line.line
     && (is_answered_so group.events group.answer && (are_told (may_tell_of (at_line chronicle line.line) line.verb) (is_of_end (at_line chronicle line.line)) group.events && (is_asked_so line.verb group.events group.answer && (closes_none line.verb group.events && (seals_so (at_line chronicle line.line) line.verb group.answer && in_line (after_group (at_line chronicle line.line) line.verb group.events group.answer) lines groups)))))
 
--- and leaves nothing undone, by its line alone
+-- and leaves nothing undone, by its line alone, and none dials
 abbrev pub all_done : List ScriptLine → List Group → Bool
 all_done (line ∷ lines) (group ∷ groups) = is_done line.verb group.events group.answer && all_done lines groups
 all_done lines groups = true
 
 abbrev pub in_order : Chronicle → List ScriptLine → List Group → Bool
-in_order chronicle script told = in_line chronicle script told && all_done script told
+in_order chronicle script told = in_line chronicle script told && (all_done script told && dials_none script)
 
 tells_so : (lines : List Event) (said : Answer) → is_answered_so lines said ≡ true → TellsIfBegun lines said
 tells_so lines (answer.No c) e why said standing = let same : c ≡ why = cc in by lines c e (subst IsStanding (sym same) standing)
@@ -203,13 +204,37 @@ all_stored (group ∷ groups) o = let both = and_parts (are_all is_settled group
 abbrev pub in_place : Chronicle → List ScriptLine → List Group → Bool
 in_place chronicle script told = in_order chronicle script told && none_stored told
 
+-- no link is left that ended: nothing was ever dialed, no line ends a link, or each is told over
+pub data Ended (chronicle : Chronicle) (script : List ScriptLine) (told : List Group) : Type 0 where
+  Never : Undialed chronicle → Ended chronicle script told
+  Quiet : all_quiet script told ≡ true → Ended chronicle script told
+  Told : AreEnded chronicle script told → Ended chronicle script told
+
+pub fired_all : (chronicle : Chronicle) (script : List ScriptLine) (told : List Group) → all_quiet script told ≡ true → AreFired chronicle script told → AreEnded chronicle script told
+fired_all chronicle (line ∷ lines) (group ∷ groups) o f =
+    let both = and_parts (is_quiet line.verb group.answer) (all_quiet lines groups) o in
+    (quiet_ended (at_line chronicle line.line) line.verb group.events group.answer both.0 f.0, fired_all (after_group (at_line chronicle line.line) line.verb group.events group.answer) lines groups both.1 f.1)
+fired_all chronicle [] groups o f = tt
+fired_all chronicle (line ∷ lines) [] o f = tt
+
+fired_parts : (chronicle : Chronicle) (script : List ScriptLine) (told : List Group) → AreParts chronicle script told → AreFired chronicle script told
+fired_parts chronicle [] [] p = tt
+fired_parts chronicle (line ∷ lines) [] p = absurd p
+fired_parts chronicle [] (group ∷ groups) p = absurd p
+fired_parts chronicle (line ∷ lines) (group ∷ groups) p = (p.0.2, fired_parts (after_group (at_line chronicle line.line) line.verb group.events group.answer) lines groups p.1)
+
+ended_so : (chronicle : Chronicle) (script : List ScriptLine) (told : List Group) → dials_none script ≡ true → AreParts chronicle script told → Ended chronicle script told → AreEnded chronicle script told
+ended_so chronicle script told o p (Never none) = undialed_ended chronicle script told o none
+ended_so chronicle script told o p (Quiet q) = fired_all chronicle script told q (fired_parts chronicle script told p)
+ended_so chronicle script told o p (Told e) = e
+
 -- and all of it
-pub whole_left : (chronicle : Chronicle) (script : List ScriptLine) (told : List Group) → in_line chronicle script told ≡ true → AreParts chronicle script told → AreLeft chronicle script told → AreHeard chronicle script told → AreStored told → LawfulGroups chronicle script told
+pub whole_left : (chronicle : Chronicle) (script : List ScriptLine) (told : List Group) → in_line chronicle script told ≡ true → AreParts chronicle script told → AreLeft chronicle script told → AreHeard chronicle script told → AreStored told → AreEnded chronicle script told → LawfulGroups chronicle script told
 unfolding AreHeard
-whole_left chronicle [] [] o p d h s = tt
-whole_left chronicle (line ∷ lines) [] o p d h s = absurd p
-whole_left chronicle [] (group ∷ groups) o p d h s = absurd p
-whole_left chronicle (line ∷ lines) (group ∷ groups) o p d h s =
+whole_left chronicle [] [] o p d h s e = tt
+whole_left chronicle (line ∷ lines) [] o p d h s e = absurd p
+whole_left chronicle [] (group ∷ groups) o p d h s e = absurd p
+whole_left chronicle (line ∷ lines) (group ∷ groups) o p d h s e =
     let next : Chronicle = after_group (at_line chronicle line.line) line.verb group.events group.answer in
     let one = and_parts (group.line == line.line) _ o in
     let two = and_parts (is_answered_so group.events group.answer) _ one.1 in
@@ -217,13 +242,13 @@ whole_left chronicle (line ∷ lines) (group ∷ groups) o p d h s =
     let four = and_parts (is_asked_so line.verb group.events group.answer) _ three.1 in
     let five = and_parts (closes_none line.verb group.events) _ four.1 in
     let six = and_parts (seals_so (at_line chronicle line.line) line.verb group.answer) (in_line next lines groups) five.1 in
-    ((p.0.0, p.0.1, p.0.2, eqb-true group.line line.line one.0, tells_so group.events group.answer two.0, hands_none (at_line chronicle line.line) line.verb group.events group.answer three.0 (sealed_so (at_line chronicle line.line) line.verb group.answer six.0), asked_so line.verb group.events group.answer four.0, d.0, h.0, s.0, breaks_so (at_line chronicle line.line) line.verb group.events five.0), whole_left next lines groups six.1 p.1 d.1 h.1 s.1)
+    ((p.0.0, p.0.1, p.0.2, eqb-true group.line line.line one.0, tells_so group.events group.answer two.0, hands_none (at_line chronicle line.line) line.verb group.events group.answer three.0 (sealed_so (at_line chronicle line.line) line.verb group.answer six.0), asked_so line.verb group.events group.answer four.0, d.0, h.0, s.0, breaks_so (at_line chronicle line.line) line.verb group.events five.0, e.0), whole_left next lines groups six.1 p.1 d.1 h.1 s.1 e.1)
 
-pub whole_stored : (chronicle : Chronicle) (script : List ScriptLine) (told : List Group) → in_order chronicle script told ≡ true → AreParts chronicle script told → AreHeard chronicle script told → AreStored told → LawfulGroups chronicle script told
-whole_stored chronicle script told o p h s = let two = and_parts (in_line chronicle script told) (all_done script told) o in whole_left chronicle script told two.0 p (all_left chronicle script told two.1) h s
+pub whole_stored : (chronicle : Chronicle) (script : List ScriptLine) (told : List Group) → in_order chronicle script told ≡ true → AreParts chronicle script told → AreHeard chronicle script told → AreStored told → Ended chronicle script told → LawfulGroups chronicle script told
+whole_stored chronicle script told o p h s e = let two = and_parts (in_line chronicle script told) _ o in let three = and_parts (all_done script told) (dials_none script) two.1 in whole_left chronicle script told two.0 p (all_left chronicle script told three.0) h s (ended_so chronicle script told three.1 p e)
 
-pub whole : (chronicle : Chronicle) (script : List ScriptLine) (told : List Group) → in_place chronicle script told ≡ true → AreParts chronicle script told → AreHeard chronicle script told → LawfulGroups chronicle script told
-whole chronicle script told o p h = let two = and_parts (in_order chronicle script told) (none_stored told) o in whole_stored chronicle script told two.0 p h (all_stored told two.1)
+pub whole : (chronicle : Chronicle) (script : List ScriptLine) (told : List Group) → in_place chronicle script told ≡ true → AreParts chronicle script told → AreHeard chronicle script told → Ended chronicle script told → LawfulGroups chronicle script told
+whole chronicle script told o p h e = let two = and_parts (in_order chronicle script told) (none_stored told) o in whole_stored chronicle script told two.0 p h (all_stored told two.1) e
 
 -- the parts, each by itself
 pub parts : (chronicle : Chronicle) (script : List ScriptLine) (told : List Group) → AreTold chronicle script told → AreAnswered chronicle script told → AreFired chronicle script told → AreParts chronicle script told
@@ -232,11 +257,11 @@ parts chronicle (line ∷ lines) [] t a f = absurd t
 parts chronicle [] (group ∷ groups) t a f = absurd t
 parts chronicle (line ∷ lines) (group ∷ groups) t a f = ((t.0, a.0, f.0), parts (after_group (at_line chronicle line.line) line.verb group.events group.answer) lines groups t.1 a.1 f.1)
 
-pub both_left : (chronicle : Chronicle) (script : List ScriptLine) (told : List Group) → in_line chronicle script told ≡ true → AreTold chronicle script told → AreAnswered chronicle script told → AreFired chronicle script told → AreLeft chronicle script told → AreHeard chronicle script told → AreStored told → LawfulGroups chronicle script told
-both_left chronicle script told o t a f d h s = whole_left chronicle script told o (parts chronicle script told t a f) d h s
+pub both_left : (chronicle : Chronicle) (script : List ScriptLine) (told : List Group) → in_line chronicle script told ≡ true → AreTold chronicle script told → AreAnswered chronicle script told → AreFired chronicle script told → AreLeft chronicle script told → AreHeard chronicle script told → AreStored told → AreEnded chronicle script told → LawfulGroups chronicle script told
+both_left chronicle script told o t a f d h s e = whole_left chronicle script told o (parts chronicle script told t a f) d h s e
 
-pub both_stored : (chronicle : Chronicle) (script : List ScriptLine) (told : List Group) → in_order chronicle script told ≡ true → AreTold chronicle script told → AreAnswered chronicle script told → AreFired chronicle script told → AreHeard chronicle script told → AreStored told → LawfulGroups chronicle script told
-both_stored chronicle script told o t a f h s = whole_stored chronicle script told o (parts chronicle script told t a f) h s
+pub both_stored : (chronicle : Chronicle) (script : List ScriptLine) (told : List Group) → in_order chronicle script told ≡ true → AreTold chronicle script told → AreAnswered chronicle script told → AreFired chronicle script told → AreHeard chronicle script told → AreStored told → Ended chronicle script told → LawfulGroups chronicle script told
+both_stored chronicle script told o t a f h s e = whole_stored chronicle script told o (parts chronicle script told t a f) h s e
 
-pub both : (chronicle : Chronicle) (script : List ScriptLine) (told : List Group) → in_place chronicle script told ≡ true → AreTold chronicle script told → AreAnswered chronicle script told → AreFired chronicle script told → AreHeard chronicle script told → LawfulGroups chronicle script told
-both chronicle script told o t a f h = whole chronicle script told o (parts chronicle script told t a f) h
+pub both : (chronicle : Chronicle) (script : List ScriptLine) (told : List Group) → in_place chronicle script told ≡ true → AreTold chronicle script told → AreAnswered chronicle script told → AreFired chronicle script told → AreHeard chronicle script told → Ended chronicle script told → LawfulGroups chronicle script told
+both chronicle script told o t a f h e = whole chronicle script told o (parts chronicle script told t a f) h e

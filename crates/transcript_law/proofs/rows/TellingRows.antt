@@ -1,7 +1,7 @@
 -- lines that tell of something that they may not, judged by hand
 use Rattle.std.specs.Prelude.{◌≡◌, ◌==◌, ◌∷◌}
 use Rattle.transcript_law.proofs.Words.{ℕ, Bool, true, false, [], refl, sym, ◌∙◌, arith, ⊎_elim, and_parts, eqb-true, Option, Some, None, Chronicle, Event, LinkVerb, NodeVerb, Verb, VbVerb}
-use Rattle.transcript_law.proofs.rows.{Groups.{in_place, whole}, Silent.{shut_heard}}
+use Rattle.transcript_law.proofs.rows.{Silent.{shut_heard}, Ended.{one_cut}, Groups.{in_place, Told, whole}}
 use Rattle.transcript_law.proofs.verbs.{Handing.{tells_of}, Tellings.{tell_first, tell_second}}
 use Rattle.transcript_law.specs.BoundRows.{LawfulHere, one_dialed}
 use Rattle.transcript_law.specs.Chronicles.{at_line}
@@ -83,7 +83,7 @@ Cuts n = LawfulHere one_dialed (Verb.AtNode n (NodeVerb.Crash Old)) (ok (ends_at
 
 cut_at : (n : ℕ) → in_place one_dialed (numbered 1 (Verb.AtNode n (NodeVerb.Crash Old) ∷ [])) (groups_from_number 1 (ok (ends_at 1 ∷ []) ∷ [])) ≡ true → Cuts n
 cut_at n at = whole one_dialed (numbered 1 (Verb.AtNode n (NodeVerb.Crash Old) ∷ [])) (groups_from_number 1 (ok (ends_at 1 ∷ []) ∷ [])) at ((((_, refl), tt), (λ c. refl), refl), tt)
-    (shut_heard one_dialed (numbered 1 (Verb.AtNode n (NodeVerb.Crash Old) ∷ [])) (groups_from_number 1 (ok (ends_at 1 ∷ []) ∷ [])) (λ m c. refl) refl)
+    (shut_heard one_dialed (numbered 1 (Verb.AtNode n (NodeVerb.Crash Old) ∷ [])) (groups_from_number 1 (ok (ends_at 1 ∷ []) ∷ [])) (λ m c. refl) refl) (Told ((one_cut n, tt), tt))
 
 -- by a crash of each node at an end of it
 pub crashed : Cuts 0 × Cuts 1

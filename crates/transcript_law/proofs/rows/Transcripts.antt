@@ -7,7 +7,7 @@ use Rattle.transcript_law.proofs.Words.{set_dead_and_show, set_one, shown_active
 use Rattle.transcript_law.proofs.Words.{Group, ScriptLine, after_active, after_dead, due_image, inside_dead, option_map}
 use Rattle.transcript_law.specs.Lawfulness.{newest_shown}
 use Rattle.transcript_law.specs.{Contrary.{after_dead_changed, branch_inside, branch_left, logged_six}, Rollbacks.{empty_uuid}, Transcripts.{shown_with_change}}
-use Rattle.transcript_law.{proofs.rows.{Groups.{both, both_stored}, StoredRows.{made_stored}, NextRows.{first_next}, Sets.{first_told, heard_then, seven_then}, Silent.{AreHeard, Silent, silent_heard, silent_start}}, specs.{Chronicles.{ArmKnown, ClientsKnown, Conns, DiskKnown}, LinesTold.{roles_from}, Prefixes.{known_after}}}
+use Rattle.transcript_law.{proofs.rows.{Groups.{both, both_stored, Never}, StoredRows.{made_stored}, NextRows.{first_next}, Sets.{first_told, heard_then, seven_then}, Silent.{AreHeard, Silent, silent_heard, silent_start}}, specs.{Chronicles.{ArmKnown, ClientsKnown, Conns, DiskKnown}, LinesTold.{roles_from}, Prefixes.{known_after}}}
 use Rattle.std.specs.FinMap as finite
 use Rattle.transcript_law.specs.LinesTold.{LastLine}
 use Rattle.transcript_law.proofs.lines.Rises.{made_here}
@@ -64,7 +64,7 @@ pub right : Lawful one_set (one_set_groups 1 0 (value_lines (8 ∷ [])))
 right = both_stored empty_chronicle one_set (one_set_groups 1 0 (value_lines (8 ∷ []))) refl
     (tt, (tt, ((record { new = tt; newest = refl; last = refl; leaves = refl }, (record { another = λ e. cc; anew = λ e. made_here _ _ _ 5 refl refl refl; pending = λ e. cc }, tt)), ((first_change _ _ _ _ _, ((refl, λ z. first_told _ _ _ refl refl refl), tt)), ((shown _ _ _ refl refl refl refl image refl refl as_set (λ _. refl) (λ _. refl), (tt, tt)), tt)))))
     (tt, (refl, ((refl, tt), (refl, (tt, tt))))) (refl, (refl, (refl, (refl, (refl, tt)))))
-    (heard_then _ _ _ _ _ refl silent_start (λ s. heard_then _ _ _ _ _ refl s (λ s. heard_then _ _ _ _ _ refl s (λ s. seven_then _ 4 4 5 _ one_change _ _ refl refl s (λ s e. silent_heard _ _ _ s refl))))) (tt, (tt, (tt, (made_stored 5 1 one_change refl, (tt, tt)))))
+    (heard_then _ _ _ _ _ refl silent_start (λ s. heard_then _ _ _ _ _ refl s (λ s. heard_then _ _ _ _ _ refl s (λ s. seven_then _ 4 4 5 _ one_change _ _ refl refl s (λ s e. silent_heard _ _ _ s refl))))) (tt, (tt, (tt, (made_stored 5 1 one_change refl, (tt, tt))))) (Never (λ l. refl))
 
 -- what the last line of a lawful transcript of this kind has behind it, and how many documents and prepares it tells of
 shown_is : (count preps : ℕ) (behind : List Event) → Lawful one_set (one_set_groups count preps behind) → (behind ≡ value_lines (8 ∷ [])) × (count ≡ 1) × (preps ≡ 0)
@@ -113,7 +113,7 @@ from_two : (more : List ScriptLine) (groups : List Group) → (let read : Chroni
 from_two more groups heard = heard_then _ _ _ _ _ refl silent_start (λ s. heard_then _ _ _ _ _ refl s (λ s. heard_then _ _ _ _ _ refl s (λ s. heard_then _ _ _ _ _ refl s heard)))
 
 pub own : Lawful (two_vbs 6 set_one) (two_vbs_groups 6 (sets_groups (change_line 0 ∷ [])))
-own = both_stored empty_chronicle (two_vbs 6 set_one) (two_vbs_groups 6 (sets_groups (change_line 0 ∷ []))) refl (tt, (tt, ((record { new = tt; newest = refl; last = refl; leaves = refl }, (record { another = λ e. cc; anew = λ e. made_here _ _ _ 5 refl refl refl; pending = λ e. cc }, tt)), (second_new _ _ _ _ _ refl, ((change_of_two _ _ _ _ _, ((refl, λ z. first_told _ _ _ refl refl refl), tt)), tt))))) (tt, (refl, ((refl, tt), ((refl, tt), (refl, tt))))) (refl, (refl, (refl, (refl, (refl, tt))))) (from_two _ _ (λ s. seven_then _ 5 5 5 _ one_change _ _ refl refl s (λ s e. silent_heard _ _ _ s refl))) (tt, (tt, (tt, (tt, (made_stored 5 1 one_change refl, tt)))))
+own = both_stored empty_chronicle (two_vbs 6 set_one) (two_vbs_groups 6 (sets_groups (change_line 0 ∷ []))) refl (tt, (tt, ((record { new = tt; newest = refl; last = refl; leaves = refl }, (record { another = λ e. cc; anew = λ e. made_here _ _ _ 5 refl refl refl; pending = λ e. cc }, tt)), (second_new _ _ _ _ _ refl, ((change_of_two _ _ _ _ _, ((refl, λ z. first_told _ _ _ refl refl refl), tt)), tt))))) (tt, (refl, ((refl, tt), ((refl, tt), (refl, tt))))) (refl, (refl, (refl, (refl, (refl, tt))))) (from_two _ _ (λ s. seven_then _ 5 5 5 _ one_change _ _ refl refl s (λ s e. silent_heard _ _ _ s refl))) (tt, (tt, (tt, (tt, (made_stored 5 1 one_change refl, tt))))) (Never (λ l. refl))
 
 pub writer : Lawful (two_vbs 6 set_one) (two_vbs_groups 6 (sets_groups (change_line 1 ∷ []))) → ⊥
 writer l = two_writers l.1.1.1.1.0.0.0.writer.made_or_took
@@ -134,7 +134,7 @@ pub same : Lawful (two_vbs 6 set_dead_and_show) (two_vbs_groups 6 (shown_after_c
 same = both_stored empty_chronicle (two_vbs 6 set_dead_and_show) (two_vbs_groups 6 (shown_after_change 5)) refl
     (tt, (tt, ((record { new = tt; newest = refl; last = refl; leaves = refl }, (record { another = λ e. cc; anew = λ e. made_here _ _ _ 5 refl refl refl; pending = λ e. cc }, tt)), (second_new _ _ _ _ _ refl, ((change_of_two _ _ _ _ _, ((refl, λ z. first_told _ _ _ refl refl refl), tt)), ((record { another = λ e. cc; anew = λ e. cc; pending = λ e. cc }, tt), ((shown _ _ _ refl refl refl refl image refl refl as_set (λ _. refl) (λ e. cc), (tt, tt)), tt)))))))
     (tt, (refl, ((refl, tt), ((refl, tt), (refl, ((refl, tt), (tt, tt))))))) (refl, (refl, (refl, (refl, (refl, (refl, (refl, tt)))))))
-    (from_two _ _ (λ s. seven_then _ 5 5 5 _ one_change _ _ refl refl s (λ s e. silent_heard _ _ _ s refl))) (tt, (tt, (tt, (tt, (made_stored 5 1 one_change refl, (tt, (tt, tt)))))))
+    (from_two _ _ (λ s. seven_then _ 5 5 5 _ one_change _ _ refl refl s (λ s e. silent_heard _ _ _ s refl))) (tt, (tt, (tt, (tt, (made_stored 5 1 one_change refl, (tt, (tt, tt))))))) (Never (λ l. refl))
 
 pub history : Lawful (two_vbs 6 set_dead_and_show) (two_vbs_groups 6 (shown_after_change 6)) → ⊥
 history l = let e : ◌≡◌ {A = List Change} [] (one_change ∷ []) = (l.1.1.1.1.1.1.0.0.0.complete refl).shared (λ z. omega arith) in cc
@@ -143,7 +143,7 @@ pub dead : Lawful (two_vbs 6 dead_and_show) (two_vbs_groups 6 (shown_dead 5))
 dead = both empty_chronicle (two_vbs 6 dead_and_show) (two_vbs_groups 6 (shown_dead 5)) refl
     (tt, (tt, ((record { new = tt; newest = refl; last = refl; leaves = refl }, (record { another = λ e. cc; anew = λ e. made_here _ _ _ 5 refl refl refl; pending = λ e. cc }, tt)), (second_new _ _ _ _ _ refl, ((record { another = λ e. cc; anew = λ e. cc; pending = λ e. cc }, tt), ((shown _ _ _ refl refl refl refl nothing refl refl as_made (λ _. refl) (λ e. cc), tt), tt))))))
     (tt, (refl, ((refl, tt), ((refl, tt), ((refl, tt), (tt, tt)))))) (refl, (refl, (refl, (refl, (refl, (refl, tt))))))
-    (from_two _ _ (λ s. silent_heard _ _ _ s refl))
+    (from_two _ _ (λ s. silent_heard _ _ _ s refl)) (Never (λ l. refl))
 
 pub dead_other : Lawful (two_vbs 6 dead_and_show) (two_vbs_groups 6 (shown_dead 6)) → ⊥
 dead_other l = let e : ◌≡◌ {A = ℕ} 5 6 = l.1.1.1.1.1.0.0.0.newest in omega arith

@@ -63,6 +63,7 @@ all_put = (
     λ n c opens. cc,
     tt,
     tt,
+    (tt, tt),
   ),
   tt,
 )
@@ -82,6 +83,7 @@ put_before = (
     λ n c opens. cc,
     tt,
     tt,
+    (tt, tt),
   ),
   tt,
 )
@@ -120,6 +122,7 @@ ended = (
     λ n c opens. cc,
     tt,
     tt,
+    (tt, tt),
   ),
   tt,
 )

@@ -107,7 +107,7 @@ changes_calm : (n v : ℕ) (reply : VbReply) → Calm (own_lines n v reply)
 changes_calm n v reply = calm_of (own_lines n v reply) (are_map is_calm (Event.Changed n v reply.branch) reply.changes (λ c. refl))
 
 -- behind the lines of a change of role stand those of its arm
-armed_behind : (n : ℕ) (w : PlainWorld) (came : Outcome) → (behind : List Event) × ((with_arm n w came).1.events ≡ came.1.events ++ behind) × Calm behind
+pub armed_behind : (n : ℕ) (w : PlainWorld) (came : Outcome) → (behind : List Event) × ((with_arm n w came).1.events ≡ came.1.events ++ behind) × Calm behind
 armed_behind n w came = by (fired_by (arm_in (w.nodes n)).fuse (arm_in (came.0.nodes n)).fuse)
   where
     by : (f : Fired) → (behind : List Event) × ((after_fire n (arm_in (w.nodes n)).out f came).1.events ≡ came.1.events ++ behind) × Calm behind

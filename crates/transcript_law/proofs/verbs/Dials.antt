@@ -41,7 +41,7 @@ neither : (a b : Bool) → (a || b) ≡ false → (a ≡ false) × (b ≡ false)
 neither true b e = cc
 neither false b e = (refl, e)
 
-free_links : (links : List PlainLink) (l n v : ℕ) → is_taken links l n v ≡ false → (x : PlainLink) → IsLink x links → (link_number x ≡ l → ⊥) × (consumer_node x ≡ n → x.consumer.dialed.vb ≡ v → ⊥)
+pub free_links : (links : List PlainLink) (l n v : ℕ) → is_taken links l n v ≡ false → (x : PlainLink) → IsLink x links → (link_number x ≡ l → ⊥) × (consumer_node x ≡ n → x.consumer.dialed.vb ≡ v → ⊥)
 free_links [] l n v e x i = absurd i
 free_links (y ∷ ys) l n v e x i =
     let both = neither ((link_number y == l) || feeds n v y) (is_taken ys l n v) e in

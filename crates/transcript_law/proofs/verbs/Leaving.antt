@@ -46,7 +46,7 @@ own_found n v (x ∷ xs) link e = by (λ q. own_found n v xs link q) (feeds n v 
         (inl (sym same), subst (λ (y : PlainLink). consumer_node y ≡ n) same (eqb-true x.consumer.dialed.node n p.0), subst (λ (y : PlainLink). y.consumer.dialed.vb ≡ v) same (eqb-true x.consumer.dialed.vb v p.1))
     by more false t q = let p = more q in (inr p.0, p.1, p.2)
 
-none_found : (n v : ℕ) (links : List PlainLink) → own_link n v links ≡ None → NoneFeeds n v links
+pub none_found : (n v : ℕ) (links : List PlainLink) → own_link n v links ≡ None → NoneFeeds n v links
 none_found n v [] e x i = absurd i
 none_found n v (y ∷ ys) e x i = by (λ q j s u. none_found n v ys q x j s u) (feeds n v y) refl e
   where

@@ -148,7 +148,7 @@ module _ (w : PlainWorld) (r : Chronicle) (a : Agrees w r) (l : ℕ) where
     came_are (Some node) = bytes_are node
 
     -- it is as it was dialed behind them
-    came_dialed : (o : Option PlainNode) → AreDialed r (came o).0.links
+    pub came_dialed : (o : Option PlainNode) → AreDialed r (came o).0.links
     came_dialed None = put_dialed r (link_number link) link w.links (dialed link is) dialed
     came_dialed (Some node) = by (over_why given.dial.consumer.handshake)
       where

@@ -11,7 +11,7 @@ use Rattle.transcript_law.specs.{Heirs.{IsRisen}, Lawfulness.{LawfulBranch, fork
 use Rattle.transcript_law.proofs.{invariant.Lefts.{LeftUpTo}, invariant.Wholes.{WholeTo}}
 use Rattle.transcript_law.proofs.links.Followed.{fork_low}
 use Rattle.transcript_law.proofs.invariant.Seats.{seat, seats_apart}
-use Rattle.transcript_law.proofs.invariant.Agreement.{clock_of, node_known, TimesAre, TimesIf, times_if, all_rise, CountsAre, CountsIf, counts_if, vb_of, Writes, WritesIf, own_history, VbHeld, VbHolds, VbAgrees, AgreesAt, consumer_seat, producer_seat, LinkAgrees, Agrees, GoesOn, LineGoes, idle, vb_contents, vb_row, VbRow, VbTold, VbIsIf, BranchAgrees, IsLink, LinksDiffer, AgreesIn}
+use Rattle.transcript_law.proofs.invariant.Agreement.{clock_of, node_known, TimesAre, TimesIf, times_if, all_rise, CountsAre, CountsIf, counts_if, vb_of, Writes, WritesIf, own_history, VbHeld, VbHolds, VbAgrees, AgreesAt, consumer_seat, producer_seat, LinkAgrees, Agrees, GoesOn, LineGoes, idle, vb_contents, vb_row, VbRow, VbTold, BranchAgrees, IsLink, LinksDiffer, AgreesIn}
 use Rattle.transcript_law.specs.Feeding.{HasOpen, IsOfClient, client_in}
 use Rattle.transcript_law.proofs.invariant.{Agreement.{Wants}, Carried.{all_there}, ClientsKept.{AllIn, ConnsKept, Every, GoesOver, all_kept, clients_kept, every_owed, fewer_at, fewer_now, goes_agreed, goes_agreed_at, spot_at}, LinkFeeds.{feeds_same}}
 use Rattle.transcript_law.proofs.invariant.Carrying.{Reclocked, Relinked, Changed}

@@ -1,13 +1,13 @@
 -- what the law needs of each line for a node, for a client's connection and for a link
 use Rattle.std.specs.Prelude.{◌≡◌, ◌∷◌, ◌||◌, ◌&&◌, if◌then◌else◌}
-use Rattle.transcript_law.proofs.Words.{ℕ, true, false, [], refl, ap, sym, subst, ◌∙◌, arith, Option, Some, None, is_some, not, Answer, Cause, Chronicle, Verb, NodeVerb, ClientVerb, LinkVerb, PlainLink, PlainNode, PlainWorld, Outcome, Told, IsAnswered, IsMoved, IsPumped, LawfulAnswer, after_verb, stays, take_snapshots}
+use Rattle.transcript_law.proofs.Words.{ℕ, true, false, [], refl, ap, sym, subst, ◌∙◌, arith, Option, Some, None, is_some, not, Answer, Cause, Chronicle, Verb, NodeVerb, ClientVerb, LinkVerb, PlainLink, PlainNode, PlainWorld, Outcome, Told, IsAnswered, LawfulAnswer, after_verb, stays, take_snapshots}
 use Rattle.transcript_law.proofs.Words.{ask_in, bytes_at, client_at, clock_at, consumer_node, cut_outcome, done, drop, empty_node, bytes_if, first_cause, hang_at, link_causes, link_number, node_causes, node_step, on_link, on_node, peer_of, peer_pulled, producer_node, pump_at, refusal, row_at, unlinked, up_at, with_client, with_dialed, with_links, with_node_at}
 use Rattle.node_world.specs.{Arms.{fail_arm, stop_arm}, Nodes.{arm_at, hung_if, pull_at, pull_if}, Power.{crash_causes, crash_step, down_lines, dropped, start_at, start_causes, start_step}, World.{base_of, client_verb_at, cut_step, down_in, down_outcome, down_step, link_step, link_verb_step, node_verb_step}, Worlds.{is_off, on_made}, declared.arm.Arm.{Arm}}
 use Rattle.transcript_law.proofs.invariant.LinkRows.{found_is_link}
 use Rattle.transcript_law.proofs.invariant.{AtRest.{RestsIf, Still, bytes_still, down_rests, either_node, hang_still, link_still, pull_still, start_still, still_put, still_ran, still_steps, up_still, weaker}, CallsKept.{InWorld, dropped_all, none_at, on_made_all, unless_all, unlinked_all}, Agreement.{Agrees, GoesOn}, Entering.{Entered, armed_entered, blank_entered, clock_entered, crashed_entered, dial_entered, moved_entered, start_line_entered}}
 use Rattle.transcript_law.proofs.invariant.{FedClients.{bytes_keeps, client_keeps, hang_keeps, pull_keeps}, FedLines.{broken_line, cut_fine, dialed_fed, down_fine, pump_fed, same_keeps, start_keeps, unless_fed, up_fed}, Feeding.{dropped_fine, made_fine, with_node as fed_node}, TimelyCalls.{pulled_tame}}
 use Rattle.transcript_law.proofs.invariant.Ranged.{IsRanged, NodeRanged, NodeRangedIf, bytes_ranged, client_ranged, down_ranged, dropped_ranged, hang_ranged, kept_ranged, on_link_ranged, on_made_ranged, pull_ranged, same_ranged, start_at_ranged, unless_ranged, unlinked_ranged, up_ranged, with_node}
-use Rattle.transcript_law.proofs.{invariant.Clients.{client_answered, crash_answered}, disks.AppendLines.{start_says}, disks.Fired.{ends_calm}, lines.Calm.{Spared, bytes_calm, pump_calm, up_calm}, lines.PullTold.{pull_calm, pull_made}, lines.Refusals.{Same, Says, on_link_says, on_node_says, refused_says, unchanged}, links.PumpAnswers.{moved_few, pump_says}}
+use Rattle.transcript_law.proofs.{invariant.Clients.{client_answered, crash_answered}, disks.AppendLines.{start_says}, disks.Fired.{ends_calm}, lines.Calm.{Spared, bytes_calm, pump_calm, up_calm}, lines.PullTold.{pull_calm, pull_made}, lines.Refusals.{Anything, Same, Says, on_link_says, on_node_says, refused_says, unchanged}, links.PumpAnswers.{pump_says}, ends.Open.{cut_answered, down_over, link_answered, pump_answered, up_answered}}
 use Rattle.transcript_law.proofs.verbs.{BoundAnswers.{bound, bound_at, bound_down, closed_link_refused, crash_refused, link_refused, node_exists, off_as_power, one, over, start_refused}, FiredLines.{down_fires, rows_fire}, LineAnswers.{IsOk, down_line_says, no_ok}}
 use Rattle.transcript_law.proofs.verbs.{ArmLines.{fail_goes, stop_goes}, Crashing.{crash_goes}, Dials.{link_goes}, DownLine.{down_answered, down_goes}, Handing.{no_rise}, Leaving.{cut_goes}, NodeLines.{as_told, clock_goes, node_goes, on_link_by, on_made_by, on_node_by, refused_on}}
 use Rattle.transcript_law.proofs.verbs.{Pumping.{pump_goes}, Requesting.{bytes_goes}, Rows.{Goes, Row, alone_row, answered_row, told_goes}, Settling.{steady}, Starting.{start_answered, start_fires, start_goes}, ClientTellings.{bytes_tells, pull_tells}, LinkTellings.{link_tells}, NodeTellings.{crash_tells, start_tells}, StopTellings.{world_dialed}, Tellings.{tell_unless}, Ups.{up_goes}}
@@ -127,7 +127,7 @@ link_row w number l m n v buffer =
       fed = λ fine kept. unless_fed w x why fine.fed (dialed_fed w fine number l m n v buffer (ask_in w n v));
       keeps = λ rests. says.1;
       tells = λ r t. tell_unless is_none (is_of_end r) why w x refl;
-      told = λ r fits t. (says.0, rows_fire (link_causes w l m n v) w x (tt, (tt, (tt, (tt, (tt, tt))))) refl);
+      told = λ r fits t. (link_answered w r t.agrees t.linked number l m n v buffer, rows_fire (link_causes w l m n v) w x (tt, (tt, (tt, (tt, (tt, tt))))) refl);
       entered = λ before r old. dial_entered r l m n v came.1.answer old;
       bound = λ r a rule. bound (is_told_down r m || is_told_down r n) Cause.NodeDown (Cause.UnknownNode ∷ []) _ came.1 rule (λ e.
           link_refused w (not (is_some (w.nodes m) && is_some (w.nodes n))) (is_off (w.nodes m) || is_off (w.nodes n)) (drop 2 (link_causes w l m n v)) x ((λ i. sym (off_as_power w r a m) i || sym (off_as_power w r a n) i) ∙ e));
@@ -136,7 +136,7 @@ link_row w number l m n v buffer =
 
 pub link_row_of : (w : PlainWorld) (l : ℕ) (what : LinkVerb) → Row w (Verb.AtLink l what) (link_verb_step w l what)
 link_row_of w l (LinkVerb.Up wanted) = let f = up_at wanted in let came : Outcome = on_link w l producer_node f in
-    let says : Says (λ told. IsMoved wanted told.answer) (Same w) came = on_link_says (λ told. IsMoved wanted told.answer) w l producer_node f (λ why. tt) (λ link node. (moved_few wanted link.up, λ why e s. cc)) in record {
+    let says : Says Anything (Same w) came = on_link_says Anything w l producer_node f (λ why. tt) (λ link node. (tt, λ why e s. cc)) in record {
       ranged = λ fits r. on_link_ranged w l producer_node f r (λ link n node here. up_ranged n wanted link node here);
       fed = λ fine kept. up_fed w fine kept l wanted;
       rests = λ r here a all. weaker came.0 (link_still w here all l producer_node f (λ link node at there. up_still (producer_node link) wanted link node at there));
@@ -144,7 +144,7 @@ link_row_of w l (LinkVerb.Up wanted) = let f = up_at wanted in let came : Outcom
       bound = λ r a rule. over w r l _ came.1 a rule (closed_link_refused w l producer_node f);
       entered = λ before r old. old;
       tells = λ r t. link_tells w r t.agrees l t.ranged (LinkVerb.Up wanted);
-      told = λ r fits t. (says.0, on_link_by (λ o. Spared o.1) w l producer_node f refl (λ link found. refl) (λ link node found known. let here : NodeRanged (producer_node link) node = subst (NodeRangedIf (producer_node link)) known (t.ranged (producer_node link)) in up_calm (producer_node link) wanted link node here.own));
+      told = λ r fits t. (up_answered w r t.agrees t.linked l wanted, on_link_by (λ o. Spared o.1) w l producer_node f refl (λ link found. refl) (λ link node found known. let here : NodeRanged (producer_node link) node = subst (NodeRangedIf (producer_node link)) known (t.ranged (producer_node link)) in up_calm (producer_node link) wanted link node here.own));
       goes = λ r fits ranged calm begins a. told_goes (Verb.AtLink l (LinkVerb.Up wanted)) r came (up_goes stays steady w r l wanted ranged calm.0 a);
     }
 link_row_of w l (LinkVerb.Down wanted) = let o : Outcome = on_link w l consumer_node (down_in wanted) in let came : Outcome = down_step w l wanted in let found : Option PlainLink = row_at link_number l w.links in record {
@@ -153,13 +153,13 @@ link_row_of w l (LinkVerb.Down wanted) = let o : Outcome = on_link w l consumer_
   fed = λ fine kept. (broken_line w l found o (down_fine w fine l wanted)).fed;
   keeps = λ rests. (down_line_says w l wanted).1;
   tells = λ r t. link_tells w r t.agrees l t.ranged (LinkVerb.Down wanted);
-  told = λ r fits t. (down_answered stays w r l wanted t.agrees (no_rise r l wanted came.1.events (link_tells w r t.agrees l t.ranged (LinkVerb.Down wanted))), down_fires w r l wanted t.dials);
+  told = λ r fits t. ((down_answered stays w r l wanted t.agrees (no_rise r l wanted came.1.events (link_tells w r t.agrees l t.ranged (LinkVerb.Down wanted))), down_over w r t.agrees t.linked l wanted), down_fires w r l wanted t.dials);
   bound = λ r a rule. over w r l _ came.1 a rule (λ none. ap (λ k. (down_outcome w l k o).1) none ∙ closed_link_refused w l consumer_node (down_in wanted) none);
   entered = λ before r old. moved_entered before r (before.dial_of l) (before.point_of l) (heir_in came.1.events) came.1.events came.1.answer old;
   goes = λ r fits ranged calm begins a. told_goes (Verb.AtLink l (LinkVerb.Down wanted)) r came (down_goes stays w r l wanted a (no_rise r l wanted came.1.events (link_tells w r a l ranged (LinkVerb.Down wanted))));
 }
 link_row_of w l (LinkVerb.Pump frames) = let f = pump_at frames in let came : Outcome = on_link w l producer_node f in
-    let says : Says (λ told. IsPumped frames told.events told.answer) (Same w) came = on_link_says (λ told. IsPumped frames told.events told.answer) w l producer_node f (λ why. tt) (pump_says frames) in record {
+    let says : Says Anything (Same w) came = on_link_says Anything w l producer_node f (λ why. tt) (λ link node. (tt, (pump_says None frames link node).1)) in record {
       ranged = λ fits r. on_link_ranged w l producer_node f r (λ link n node here. same_ranged n node (f link node).0.vbs node.made here);
       fed = λ fine kept. pump_fed w fine kept l frames;
       rests = λ r here a all. weaker came.0 (link_still w here all l producer_node f (λ link node at there. still_ran (peer_pulled frames (peer_of link)) node.vbs (pulled_tame frames (peer_of link)) there));
@@ -167,7 +167,7 @@ link_row_of w l (LinkVerb.Pump frames) = let f = pump_at frames in let came : Ou
       bound = λ r a rule. over w r l _ came.1 a rule (closed_link_refused w l producer_node f);
       entered = λ before r old. old;
       tells = λ r t. link_tells w r t.agrees l t.ranged (LinkVerb.Pump frames);
-      told = λ r fits t. (says.0, on_link_by (λ o. Spared o.1) w l producer_node f refl (λ link found. refl) (λ link node found known. pump_calm frames link node));
+      told = λ r fits t. (pump_answered w r t.agrees t.linked l frames, on_link_by (λ o. Spared o.1) w l producer_node f refl (λ link found. refl) (λ link node found known. pump_calm frames link node));
       goes = λ r fits ranged calm begins a. told_goes (Verb.AtLink l (LinkVerb.Pump frames)) r came (pump_goes take_snapshots w r l frames a);
     }
 link_row_of w l LinkVerb.Cut = let found : Option PlainLink = row_at link_number l w.links in
@@ -179,6 +179,6 @@ link_row_of w l LinkVerb.Cut = let found : Option PlainLink = row_at link_number
       bound = λ r a rule. over w r l _ (cut_step w l).1 a rule (λ none. ap (λ o. (cut_outcome w o).1) none);
       entered = λ before r old. old;
       tells = λ r t. link_tells w r t.agrees l t.ranged LinkVerb.Cut;
-      told = λ r fits t. (says.0, elim found as (λ o. Spared (cut_outcome w o).1) [ None ↦ refl | Some link ↦ refl ]);
+      told = λ r fits t. (cut_answered w r t.agrees t.linked l, elim found as (λ o. Spared (cut_outcome w o).1) [ None ↦ refl | Some link ↦ refl ]);
       goes = λ r fits ranged calm begins a. told_goes (Verb.AtLink l LinkVerb.Cut) r (cut_step w l) (cut_goes stays w r l a);
     }

@@ -1,7 +1,7 @@
 -- the lines `promote`, `follow`, `dead`, `seal` and `log`
-use Rattle.{node_world.specs.Nodes.{with_clients_ended}, transcript_law.specs.{Chronicles.{alone}, Feeding.{IsOfClient, client_in}}}
+use Rattle.{node_world.specs.Nodes.{with_clients_ended}, transcript_law.specs.Feeding.{IsOfClient, client_in}}
 use Rattle.std.specs.Prelude.{◌≡◌, ◌<◌, ◌∷◌, ◌++◌, ◌==◌, ◌^◌, if◌then◌else◌, not}
-use Rattle.transcript_law.proofs.Words.{ℕ, last_seq, inl, All, Bool, true, false, List, refl, ap, sym, ◌∙◌, subst, append-nil, Option, Some, None, is_some, flat_map, option_map, eqb-false, eqb-true, eq-eqb, ne_eqb, Cause, Event, Role, Cluster, Move, happens, Plain, plain_step, is_active, refusal_reply, with_vb_at, call_at, stream_ids, in_role, ending_reply, parent_of, led, Change}
+use Rattle.transcript_law.proofs.Words.{ℕ, inl, All, Bool, true, false, List, refl, ap, sym, ◌∙◌, subst, append-nil, Option, Some, None, is_some, flat_map, option_map, eqb-false, eqb-true, eq-eqb, ne_eqb, Cause, Event, Role, Cluster, Move, happens, Plain, plain_step, is_active, refusal_reply, with_vb_at, call_at, stream_ids, in_role, ending_reply, parent_of, led, Change}
 use Rattle.transcript_law.proofs.Words.{is_role, with_seal, fork_of, holds_fewer, Sound, StaysSound, AdminCall, AdminResult, admin_call, admin_replied, PlainLink, PlainNode, PlainWorld, Outcome, with_branches}
 use Rattle.transcript_law.proofs.Words.{with_node_at, with_links, with_states, node_outcome, vb_in, first_cause, refused_or, is_one_of, branch_of_line, on_node, own_link, cut_off, link_ended, links_ended, unlinked, with_ended}
 use Rattle.transcript_law.proofs.Words.{admin_line, no_node, turned_after, role_outcome, turn_causes, turn_step, Chronicle, after_lines, with_at, LawfulFrom, [], EndReason, VbAnswer, VbReply, producer_node, node_if, LawfulRole, States, VbCall, after_branch, after_line, after_role, newest_branch, Status, turn_row, seal_row, role_changed, after_cuts, promote_step, after_seal, uuid_causes, role_causes, shelf_in}

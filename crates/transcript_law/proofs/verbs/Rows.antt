@@ -3,6 +3,7 @@ use Rattle.std.specs.Prelude.{◌≡◌}
 use Rattle.transcript_law.proofs.Words.{ℕ, List, [], refl, sym, subst, false, is_some, Answer, Cause, Event, Chronicle, Verb, VerbFits, PlainNode, PlainWorld, Outcome, Told, LawfulAnswer, IsAnswered, after_verb, on_node}
 use Rattle.node_world.specs.Rests.{Rests}
 use Rattle.transcript_law.proofs.invariant.{Agreement.{Agrees, GoesOn, LineGoes}, Begun.{Begins}, AtRest.{RestsIf, Still, node_still, weaker}, CallsKept.{AllAt, InWorld}, ClientWorlds.{ConnsAre}, Entering.{Entered}, Feeding.{AllFed, AllKept, Fine, node_fine}, FedClients.{Keeps}, Ranged.{IsRanged, NodeRanged, NodeRangedIf, on_node_ranged}}
+use Rattle.transcript_law.proofs.ends.Links.{AllLinked}
 use Rattle.transcript_law.proofs.lines.{Calm.{Spared}, Refusals.{Same, Says}}
 use Rattle.transcript_law.proofs.verbs.{BoundAnswers.{bound_plain}, FiredLines.{DialsTold}, LineAnswers.{AllTold, ArmKnown, ShutTold, opens_of, told_of_opens}, NodeLines.{line_goes_on, on_node_by}}
 use Rattle.transcript_law.specs.LawfulAnswers.{IsStill}
@@ -17,6 +18,7 @@ pub record AsTold (w : PlainWorld) (r : Chronicle) : Type 0 where
   pub arms : (n : ℕ) → ArmKnown w r n
   pub dials : DialsTold w r
   pub conns : ConnsAre w r.conn_at
+  pub linked : AllLinked w r.dial_of
   pub ranged : IsRanged w
 
 -- all that the law needs of a line that leaves this world and tells this

@@ -1,6 +1,6 @@
 use Rattle.std.specs.Prelude.{◌∷◌}
 use Rattle.transcript_law.proofs.Words.{[], refl, arith, after_dead, Role}
-use Rattle.transcript_law.proofs.rows.{AskedRows.{no_replica, not_dead, not_dead_failed, not_failed, not_following, not_made, not_promoted, not_promoted_failed, not_dead_closed, right_made, right_replica}, ClosedRows.{stands}, Groups.{whole}, Silent.{shut_heard}}
+use Rattle.transcript_law.proofs.rows.{AskedRows.{no_replica, not_dead, not_dead_failed, not_failed, not_following, not_made, not_promoted, not_promoted_failed, not_dead_closed, right_made, right_replica}, ClosedRows.{stands}, Groups.{Never, whole}, Silent.{shut_heard}}
 use Rattle.transcript_law.proofs.asked.judged_turns.Goals as goal
 use Rattle.transcript_law.specs.AskedRows.{fails_here, in_role, made_at}
 use Rattle.transcript_law.specs.Contrary.{promoted_groups, promotes_dead, risen_lines}
@@ -24,7 +24,7 @@ returns c = record {
   made_twice = not_made (made_at 0 0 5 ∷ in_role 0 0 Role.Active ∷ in_role 0 0 Role.Active ∷ []) refl;
   made_failed = not_failed [] refl;
   promoted = whole after_dead promotes_dead (promoted_groups 1 risen_lines answer.Ok) refl
-      (((record { new = (λ e. omega arith, tt); newest = refl; last = refl; leaves = refl }, (record { another = λ e. cc; anew = λ e. made_here _ _ _ 7 refl refl refl; pending = λ e. cc }, tt)), (refl, tt), refl), tt) (shut_heard after_dead promotes_dead (promoted_groups 1 risen_lines answer.Ok) (λ n c. refl) refl);
+      (((record { new = (λ e. omega arith, tt); newest = refl; last = refl; leaves = refl }, (record { another = λ e. cc; anew = λ e. made_here _ _ _ 7 refl refl refl; pending = λ e. cc }, tt)), (refl, tt), refl), tt) (shut_heard after_dead promotes_dead (promoted_groups 1 risen_lines answer.Ok) (λ n c. refl) refl) (Never (λ l. refl));
   promoted_no_branch = not_promoted (in_role 0 0 Role.Active ∷ []) refl;
   promoted_other_id = not_promoted (made_at 0 0 6 ∷ in_role 0 0 Role.Active ∷ []) refl;
   promoted_round = not_promoted (in_role 0 0 Role.Active ∷ made_at 0 0 7 ∷ []) refl;

@@ -16,6 +16,6 @@ returns c = record {
   down_undialed = λ l wanted. refused_for empty_chronicle (verb.AtLink l (link_verb.Down wanted)) (λ n c. refl) Cause.LinkClosed tt refl refl;
   pump_undialed = λ l wanted. refused_for empty_chronicle (verb.AtLink l (link_verb.Pump wanted)) (λ n c. refl) Cause.LinkClosed tt refl refl;
   cut_undialed = λ l. refused_for empty_chronicle (verb.AtLink l link_verb.Cut) (λ n c. refl) Cause.LinkClosed tt refl refl;
-  cuts = (((((record { producer = 0; node = 1; vb = 0 }), refl), tt), tt, refl, refl, (λ w no standing. let e : Answer.Ok ≡ Answer.No w = no in cc), refl, tt, tt, λ n k opens. cc, tt, tt), tt);
+  cuts = (((((record { producer = 0; node = 1; vb = 0 }), refl), tt), tt, refl, refl, (λ w no standing. let e : Answer.Ok ≡ Answer.No w = no in cc), refl, tt, tt, λ n k opens. cc, tt, tt, (refl, tt)), tt);
   other = λ wanted. refused_for one_dialed (verb.AtLink 2 (link_verb.Up wanted)) (λ n c. refl) Cause.LinkClosed tt refl refl;
 }

@@ -32,9 +32,9 @@ returns c = record {
   producer = λ l v buffer. refused_for_one zero_down (verb.Link l 0 1 v buffer) (λ n c. refl) Cause.NodeDown Cause.UnknownNode tt tt refl refl refl;
   consumer = λ l v buffer. refused_for_one zero_down (verb.Link l 1 0 v buffer) (λ n c. refl) Cause.NodeDown Cause.UnknownNode tt tt refl refl refl;
   start = λ uuids. refused_for_one zero_down (verb.AtNode 1 (node_verb.Start uuids)) (λ n c. refl) Cause.NodeUp Cause.UnknownNode tt tt refl refl refl;
-  stops = λ call out. ((tt, tt, refl, refl, (λ w no standing. refl), refl, tt, tt, λ n k opens. cc, tt, tt), tt);
-  fails = λ call. ((tt, tt, refl, refl, (λ w no standing. refl), refl, tt, tt, λ n k opens. cc, tt, tt), tt);
-  other = ((tt, tt, refl, refl, (λ w no standing. refl), refl, tt, tt, λ n k opens. cc, tt, tt), tt);
-  other_link = ((tt, tt, refl, refl, (λ w no standing. refl), refl, tt, tt, λ n k opens. cc, tt, tt), tt);
-  other_crash = λ out. ((tt, (λ c. refl), refl, refl, (λ w no standing. refl), refl, tt, tt, λ n k opens. cc, tt, tt), tt);
+  stops = λ call out. ((tt, tt, refl, refl, (λ w no standing. refl), refl, tt, tt, λ n k opens. cc, tt, tt, (tt, tt)), tt);
+  fails = λ call. ((tt, tt, refl, refl, (λ w no standing. refl), refl, tt, tt, λ n k opens. cc, tt, tt, (tt, tt)), tt);
+  other = ((tt, tt, refl, refl, (λ w no standing. refl), refl, tt, tt, λ n k opens. cc, tt, tt, (tt, tt)), tt);
+  other_link = ((tt, (refl, λ l. refl), refl, refl, (λ w no standing. refl), refl, tt, tt, λ n k opens. cc, tt, tt, (tt, tt)), tt);
+  other_crash = λ out. ((tt, (λ c. refl), refl, refl, (λ w no standing. refl), refl, tt, tt, λ n k opens. cc, tt, tt, ((λ l. refl), tt)), tt);
 }

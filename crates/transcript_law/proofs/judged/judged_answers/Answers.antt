@@ -7,7 +7,7 @@ pub returns : goal.returns
 returns c = record {
   moved = omega arith;
   beyond = λ l. let e : 11 ≤ 10 = l in omega arith;
-  beyond_down = λ l. let e : 11 ≤ 10 = l.0 in omega arith;
+  beyond_down = λ l. let e : 11 ≤ 10 = l.0.0 in omega arith;
   uncounted = λ l. l;
   pumped = pumped_right;
   all = pumped_all;

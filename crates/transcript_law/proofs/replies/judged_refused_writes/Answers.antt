@@ -23,6 +23,7 @@ returns c = record {
   full = rows.full;
   full_beside = rows.full_beside;
   full_early = rows.full_early;
+  full_twice = rows.full_twice;
   full_first = rows.full_first;
   made = rows.made;
   removed = rows.removed;

@@ -8,12 +8,12 @@ returns c = record {
   stands = refl;
   breaks = refl;
   none = refl;
-  answered = (omega arith, λ e. cc, λ e. (refl, (refl, tt)));
-  passes = (omega arith, λ e. cc, λ e. (refl, (refl, omega arith)));
-  hit = λ k few l. let passed : 4 < k = (l.2 refl).1.1 in omega (arith, few, passed);
-  shut = λ l. let e : true ≡ false = (l.2 refl).1.0 in cc;
-  failed = ((refl, (omega arith, omega arith)), inr refl, refl);
-  closed = (refl, inr refl, refl);
-  unowed = λ l. ⊎_elim (λ b. let e : ◌≡◌ {A = Back} None (Some b.0) = b.1 in cc) (λ rises. let e : false ≡ true = rises in cc) l.1;
-  beside = λ l. let e : true ≡ false = (l.2 refl).0 in cc;
+  answered = ((omega arith, λ e. cc, λ e. (refl, (refl, tt))), tt);
+  passes = ((omega arith, λ e. cc, λ e. (refl, (refl, omega arith))), tt);
+  hit = λ k few l. let passed : 4 < k = (l.0.2 refl).1.1 in omega (arith, few, passed);
+  shut = λ l. let e : true ≡ false = (l.0.2 refl).1.0 in cc;
+  failed = (((refl, (omega arith, omega arith)), inr refl, refl), tt);
+  closed = ((refl, inr refl, refl), tt);
+  unowed = λ l. ⊎_elim (λ b. let e : ◌≡◌ {A = Back} None (Some b.0) = b.1 in cc) (λ rises. let e : false ≡ true = rises in cc) l.0.1;
+  beside = λ l. let e : true ≡ false = (l.0.2 refl).0 in cc;
 }

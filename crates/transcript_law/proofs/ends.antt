@@ -1,0 +1,5 @@
+pub mod Told
+pub mod Links
+pub mod Steps
+pub mod Open
+pub mod Ended
