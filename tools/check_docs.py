@@ -22,12 +22,12 @@ LINE, CELL = 100, 200
 # What grows with what it says is read by nobody: a page that says more says something else shorter.
 LENGTHS = {
     "README.md": 150,
-    "CHANGELOG.md": 135,
+    "CHANGELOG.md": 145,
     "docs/ARCHITECTURE.md": 344,
-    "docs/GUARANTEES.md": 412,
+    "docs/GUARANTEES.md": 418,
     "docs/KV_ENGINE.md": 100,
-    "docs/PROOFS.md": 494,
-    "docs/TWINS.md": 282,
+    "docs/PROOFS.md": 515,
+    "docs/TWINS.md": 290,
 }
 PAGES = ["README.md", "CONTRIBUTING.md", "CHANGELOG.md", "corpus/README.md", "docs/*.md", "crates/*/README.md"]
 
