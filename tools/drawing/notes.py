@@ -127,13 +127,14 @@ class Notes:
         return [asked, bold(name_of(event.status, STATUSES), LOST)]
 
     def sending(self, place: Place, stage: Stage) -> list[Note]:
-        """What producers send: snapshots by their ends, or how many more changes, and the stream's end."""
+        """What producers send: snapshots by their ends, or how many more changes, states, and the stream's end."""
         notes = []
         for link in {id(link): link for link, _ in stage.put if link.producer == place}.values():
             events = [event for it, event in stage.put if it is link]
             marks = [f"{event.start}–{event.end}" for event in events if event.kind == "mark"]
             count = sum(event.kind == "item" for event in events)
             words = [short(" ".join(marks), 18)] if marks else [f"{count} more"] * bool(count)
+            words += [event.role for event in events if event.kind == "state"]
             words += ["end"] * any(event.kind == "fin" for event in events)
             notes.append(Note(f"{link.name} sends {' '.join(words)}", GREY))
         return notes

@@ -116,8 +116,9 @@ BAD_GROUPS = [
     "nothing", "role 0 0", "role 0 x active", "role 0 0 active 1", "role 0 0 alive", "reply 0 1 8", "logged 0 0 1",
     "change 0 0 1 1 put 61", "closed 0 \xff", "ask L1 0 7 0 0 9 0 0 0 2 11:0 maybe", "item 1 2 set 61",
     "item C1 2 set 61", "item C1.2.3 2 set 61", "mark C0.01 0 1 1", "mark c0.1 0 1 1", "fin C.1 2", "end C0.1 cut",
+    "state L1", "state L1 Pending", "state L1 pending x", "state pending", "state 1 pending", "state L01 pending",
     "got 0 0 C0.1 1 remove 61 1 1",
-    "doc 61 1 1 0 0 0 3G", "ok x", "ok 1 more", "ok 18446744073709551616", "no", "#2", "ok\nok",
+    "doc 61 1 1 0 0 0 3G", "ok x", "ok 1 more", "ok 1 wait-", "ok 1 wait-State", "ok wait-state", "ok 1 wait-state 1", "ok 18446744073709551616", "no", "#2", "ok\nok",
 ]
 BAD_TRANSCRIPTS = [
     b"ok\n", b"#1\n", b"#01\nok\n", b"\xff", b"bad line 1\n#1\n", b"bad line\n",

@@ -101,6 +101,10 @@ EVENTS = {
     "item L505 24 commit 6b": 'Link 505 carries change 24: "k" is committed.',
     "item L505 25 abort 6b": 'Link 505 carries change 25: "k" is aborted.',
     "fin L505 2": "Link 505 carries its stream's end: its vBucket changed its role.",
+    "state L505 pending": "Link 505 carries a state: the vBucket at its end is to be pending.",
+    "state L505 active": "Link 505 carries a state: the vBucket at its end is to be active.",
+    "state L505 replica": "Link 505 carries a state: the vBucket at its end is to be a replica.",
+    "state C3.41 dead": "Client 41 of node 3 is sent a state: the vBucket at its end is to be dead.",
     "adopt 9 702 2202:28,1101:4":
     "vBucket 702 of node 9 takes over a failover log with branch 2202 from 28 on, branch 1101 from 4 on.",
     "adopt 9 702 -": "vBucket 702 of node 9 takes over an empty failover log.",
@@ -147,6 +151,7 @@ ANSWERS = {
     ("done 3 702", "ok 22"): "All up to 22 is saved.",
     ("pump 505 80", "ok 6 idle"): "6 frames were put, and there is no more to put now.",
     ("pump 505 80", "ok 2 full"): "2 frames were put, and the window is shut.",
+    ("pump 505 80", "ok 4 wait-state"): "4 frames were put, and a state is to be answered first.",
     ("pump 505 80", "ok 1 wait-saved"): "1 frame was put, and what comes next is in the journal alone.",
     ("pump 505 80", "ok 80 -"): "80 frames were put.",
     ("pull 3 41 80", "ok 6 idle"): "6 frames were put, and there is no more to put now.",

@@ -264,7 +264,7 @@ class Histories:
             self.link(event.stream).underway.append(event.seqno)
         self.on_mark(stage, event)
 
-    on_fin = on_mark
+    on_fin = on_state = on_mark
 
     def on_reply(self, stage: Stage, event: Event) -> None:
         """The frame that a client's stream puts names the vBucket."""

@@ -108,6 +108,8 @@ def answer_sentence(line: Line, answer: list[str]) -> str:
             return f"{counted(int(count), 'frame was', 'frames were')} put, and there is no more to put now."
         case ["ok", count, "full"]:
             return f"{counted(int(count), 'frame was', 'frames were')} put, and the window is shut."
+        case ["ok", count, "wait-state"]:
+            return f"{counted(int(count), 'frame was', 'frames were')} put, and a state is to be answered first."
         case ["ok", count, "wait-saved"]:
             put = counted(int(count), "frame was", "frames were")
             return f"{put} put, and what comes next is in the journal alone."
@@ -192,6 +194,9 @@ def stream_sentence(event: Event) -> str | None:
         case "fin":
             whose = "its" if isinstance(event.stream, int) else "a"
             return f"{carrier(event.stream)} {whose} stream's end: {REASONS.get(event.reason, event.reason)}."
+        case "state":
+            role = "a replica" if event.role == "replica" else event.role
+            return f"{carrier(event.stream)} a state: the vBucket at its end is to be {role}."
         case "end":
             return f"Link {event.link} ends: {ENDS.get(event.why, event.why)}."
     return None

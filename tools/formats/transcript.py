@@ -26,6 +26,7 @@ KINDS = {
     "mark": "stream start end flags",
     "item": "stream seqno act key",
     "fin": "stream reason",
+    "state": "stream role",
     "adopt": "node vb log",
     "range": "node vb start end",
     "got": "node vb link CHANGE",
@@ -143,7 +144,7 @@ def is_answer(words: list[str]) -> bool:
     match words:
         case ["ok"] | ["no", _]:
             return True
-        case ["ok", count] | ["ok", count, "-" | "idle" | "full" | "wait-saved"]:
+        case ["ok", count] | ["ok", count, "-" | "idle" | "full" | "wait-state" | "wait-saved"]:
             return is_number(count)
     return False
 

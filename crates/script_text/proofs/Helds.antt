@@ -224,7 +224,8 @@ streamed_held words =
     (either_some IsEventHeld (bytes_eq (word_at words 0) (codes "mark")) _ _ (stream_held (at 1), long_held (at 2), long_held (at 3), int_held (at 4))
     (either_some IsEventHeld (bytes_eq (word_at words 0) (codes "item")) _ _ (some_map IsKeyHeld IsEventHeld _ (key_of (as_bytes (at 4))) (key_held (at 4)) (λ key h. (stream_held (at 1), long_held (at 2), h)))
     (either_some IsEventHeld (bytes_eq (word_at words 0) (codes "fin")) _ _ (stream_held (at 1), int_held (at 2))
-    (follower_held words))))
+    (either_some IsEventHeld (bytes_eq (word_at words 0) (codes "state")) _ _ (stream_held (at 1))
+    (follower_held words)))))
 
 event_held : (words : List (List ℕ)) → IfSome (as_event words) IsEventHeld
 event_held words =

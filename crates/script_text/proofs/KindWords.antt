@@ -124,19 +124,25 @@ pub reason_back : {X : Type 0} (r : EndReason) (s : ℕ) (rest : List ℕ) (k : 
 reason_back r s rest k e = read_word reason_of (reason_text r) r s rest k (reason_clean r) e (reason_is r)
 
 abbrev pub why_of : List ℕ → Option Why
-why_of [] = None
-why_of (b ∷ word) = if b == 45 then Some why.All else if b == 105 then Some why.Idle else if b == 102 then Some why.Full else Some why.WaitSaved
+why_of word =
+    if bytes_eq word (codes "-") then Some why.All
+    else if bytes_eq word (codes "idle") then Some why.Idle
+    else if bytes_eq word (codes "full") then Some why.Full
+    else if bytes_eq word (codes "wait-state") then Some why.WaitState
+    else Some why.WaitSaved
 
 pub why_clean : (w : Why) → clean ends (why_text w) ≡ true
 why_clean why.All = refl
 why_clean why.Idle = refl
 why_clean why.Full = refl
+why_clean why.WaitState = refl
 why_clean why.WaitSaved = refl
 
 pub why_is : (w : Why) → why_of (why_text w) ≡ Some w
 why_is why.All = refl
 why_is why.Idle = refl
 why_is why.Full = refl
+why_is why.WaitState = refl
 why_is why.WaitSaved = refl
 
 pub why_back : {X : Type 0} (w : Why) (s : ℕ) (rest : List ℕ) (k : Why → List ℕ → Option X) → ends s ≡ true → reading why_of (why_text w ++ s ∷ rest) k ≡ k w rest

@@ -22,7 +22,7 @@ streams = record { go = refl; roll = refl; refuse = refl; adopted = refl; logged
 
 pub clients : ClientsInLetters
 unfolding event_text place_text client_text ask_text request_text entry_text hex_text encode_with digits
-clients = record { asked = refl; marked = refl; item = refl; finished = refl; wide = refl }
+clients = record { asked = refl; marked = refl; item = refl; finished = refl; wide = refl; state_replica = refl; state_dead = refl }
 
 pub words : WordsInLetters
 words = record {

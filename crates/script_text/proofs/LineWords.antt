@@ -52,6 +52,7 @@ why_is : (w : Why) → as_why (why_text w) ≡ w
 why_is why.All = refl
 why_is why.Idle = refl
 why_is why.Full = refl
+why_is why.WaitState = refl
 why_is why.WaitSaved = refl
 
 cause_is : (c : Cause) → as_cause (cause_text c) ≡ c
@@ -169,6 +170,10 @@ event_takes (event.Finished stream reason) h =
     tells (event.Finished stream reason) _ refl
     (row_part (word_part (codes "fin") refl ⟫ stream_part stream h.0 ⟫ int_part reason h.1 ⟫ none))
     (λ i. Some (line.Event (event.Finished (stream_is stream h.0 i) (int_is reason h.1 i))))
+event_takes (event.Stated stream role) h =
+    tells (event.Stated stream role) _ refl
+    (row_part (word_part (codes "state") refl ⟫ stream_part stream h ⟫ word_part (role_text role) (role_clean role) ⟫ none))
+    (λ i. Some (line.Event (event.Stated (stream_is stream h i) (role_is role i))))
 event_takes (event.Adopted node vb log) h =
     tells (event.Adopted node vb log) _ refl
     (row_part (word_part (codes "adopt") refl ⟫ place_part node vb h.0 ⟫ log_part log h.1 ⟫ none))

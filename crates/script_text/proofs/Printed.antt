@@ -35,5 +35,7 @@ lines = record {
   marked = refl;
   item = refl;
   finished = refl;
+  state_pending = refl;
+  state_active = refl;
   closed = refl;
 }

@@ -8,7 +8,7 @@ use Rattle.script_text.specs.Transcript.{hex_text, place_text, link_text, client
 use Rattle.script_text.specs.Taken.{as_bytes, as_log}
 use Rattle.script_text.specs.TakenLines.{line_taken}
 use Rattle.script_text.specs.ReadBack.{line_text, line_of, transcript_of}
-use Rattle.script_text.specs.ReadRows.{ReadInLetters, ClientsReadInLetters, BreaksInLetters, ClientsBreakInLetters}
+use Rattle.script_text.specs.ReadRows.{ReadInLetters, ClientsReadInLetters, StatesReadInLetters, BreaksInLetters, ClientsBreakInLetters, StatesBreakInLetters}
 use Rattle.script_text.proofs.ReadLaws.{found, broken}
 
 pub read : ReadInLetters
@@ -70,4 +70,41 @@ clients_break = record {
   asked = broken _ _ refl;
   marked = broken _ _ refl;
   item = broken _ _ refl;
+}
+
+pub states : StatesReadInLetters
+unfolding transcript_of line_of line_taken line_text event_text link_text client_text number_of digits
+states = record {
+  pending = found _ _ refl;
+  active = found _ _ refl;
+  replica = found _ _ refl;
+  dead = found _ _ refl;
+  none = found _ _ refl;
+  most = found _ _ refl;
+}
+
+pub states_break : StatesBreakInLetters
+unfolding transcript_of line_of line_taken line_text event_text place_text link_text client_text number_of digits
+states_break = record {
+  other_case = broken _ _ refl;
+  no_role = broken _ _ refl;
+  more = broken _ _ refl;
+  no_such_role = broken _ _ refl;
+  number = broken _ _ refl;
+  longer = broken _ _ refl;
+  no_stream = broken _ _ refl;
+  no_letter = broken _ _ refl;
+  zeros = broken _ _ refl;
+  small_letter = broken _ _ refl;
+  wide = broken _ _ refl;
+  vb = broken _ _ refl;
+  capital = broken _ _ refl;
+  other_word = broken _ _ refl;
+  waits_case = broken _ _ refl;
+  waits_no_dash = broken _ _ refl;
+  waits_space = broken _ _ refl;
+  waits_longer = broken _ _ refl;
+  waits_shorter = broken _ _ refl;
+  waits_alone = broken _ _ refl;
+  waits_more = broken _ _ refl;
 }

@@ -88,6 +88,9 @@ item_in text =
 abbrev fin_in : List ℕ → Reads
 fin_in text = reading stream_of text (λ stream text. reading number_of text (λ reason text. told (event.Finished stream reason) text))
 
+abbrev state_in : List ℕ → Reads
+state_in text = reading stream_of text (λ stream text. reading role_of text (λ role text. told (event.Stated stream role) text))
+
 abbrev adopt_in : List ℕ → Reads
 adopt_in text = place_in text (λ node vb text. reading log_of text (λ log text. told (event.Adopted node vb log) text))
 
@@ -144,6 +147,7 @@ line_in word mark text whole =
     else if bytes_eq word (codes "mark") then mark_in text
     else if bytes_eq word (codes "item") then item_in text
     else if bytes_eq word (codes "fin") then fin_in text
+    else if bytes_eq word (codes "state") then state_in text
     else if bytes_eq word (codes "adopt") then adopt_in text
     else if bytes_eq word (codes "range") then range_in text
     else if bytes_eq word (codes "got") then got_in text
@@ -182,6 +186,7 @@ event_back (event.Marked stream start end flags) rest h =
 event_back (event.Item stream seq act key) rest h =
     stream_back stream 32 _ _ h.0 refl ∙ number_back seq 32 _ _ h.1 refl ∙ sent_back act 32 _ _ refl ∙ hex_back key 10 _ _ h.2 refl
 event_back (event.Finished stream reason) rest h = stream_back stream 32 _ _ h.0 refl ∙ number_back reason 10 _ _ h.1 refl
+event_back (event.Stated stream role) rest h = stream_back stream 32 _ _ h refl ∙ role_back role 10 _ _ refl
 event_back (event.Adopted node vb log) rest h = place_back node vb 32 _ _ h.0 h.1 refl ∙ log_back log 10 _ _ h.2 refl
 event_back (event.Ranged node vb ss se) rest h = place_back node vb 32 _ _ h.0 h.1 refl ∙ number_back ss 32 _ _ h.2 refl ∙ number_back se 10 _ _ h.3 refl
 event_back (event.Got node vb stream change) rest h =

@@ -8,8 +8,8 @@ use Rattle.vb_events.specs.declared.event.ItemAct.TheVariants as sent
 use Rattle.vb_events.specs.declared.event.Why.TheVariants as why
 use Rattle.vb_types.specs.declared.role.Role.TheVariants as role
 use Rattle.script_text.specs.Numbers.{number_of}
-use Rattle.script_text.specs.Transcript.{act_text, cause_text, event_text, flag_text, level_text, link_text, place_text, reason_text, role_text, sent_text, spaced, why_text}
-use Rattle.script_text.specs.Wordings.{IsWordOf, LevelsInWords, ActsInWords, DurableWords, ChainsInWords, ChainsAreRead, ChainsAreRefused, AcknowledgementWords, SavingInWords, SavingWords, StopsInWords, StopWords, StopsAreRead, StopsAreRefused, WindowWords, LinksAreRead, LinksAreRefused, PullsAreRead, PullsAreRefused}
+use Rattle.script_text.specs.Transcript.{act_text, cause_text, client_text, event_text, flag_text, level_text, link_text, place_text, reason_text, role_text, sent_text, spaced, why_text}
+use Rattle.script_text.specs.Wordings.{IsWordOf, LevelsInWords, ActsInWords, DurableWords, ChainsInWords, ChainsAreRead, ChainsAreRefused, AcknowledgementWords, SavingInWords, SavingWords, StopsInWords, StopWords, StopsAreRead, StopsAreRefused, WindowWords, StateWords, LinksAreRead, LinksAreRefused, PullsAreRead, PullsAreRefused}
 use Rattle.script_text.proofs.KindWords.{level_of, level_is, sent_of, sent_is, flag_of, flag_is, role_of, role_is, cause_of, cause_is, reason_of, reason_is, why_of, why_is}
 
 -- what is read back is the one thing of its word
@@ -147,6 +147,15 @@ stops_refused = record {
 
 pub windows : WindowWords
 windows = record { full = word_of why_of why_text why_is why.Full (codes "full") refl; stops = λ frames. refl }
+
+pub states : StateWords
+unfolding event_text link_text client_text
+states = record {
+  waits = word_of why_of why_text why_is why.WaitState (codes "wait-state") refl;
+  stops = λ frames. refl;
+  link = λ link role. refl;
+  client = λ node client role. ap (λ rest. codes "state C" ++ rest) (append_assoc (decimal node) (46 ∷ decimal client) (32 ∷ role_text role));
+}
 
 pub links_read : LinksAreRead
 unfolding number_of

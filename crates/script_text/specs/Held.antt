@@ -92,6 +92,7 @@ IsEventHeld (event.Asked stream node vb ask high log answer) =
 IsEventHeld (event.Marked stream start end flags) = IsStreamHeld stream × IsLong start × IsLong end × IsInt flags
 IsEventHeld (event.Item stream seq act key) = IsStreamHeld stream × IsLong seq × IsKeyHeld key
 IsEventHeld (event.Finished stream reason) = IsStreamHeld stream × IsInt reason
+IsEventHeld (event.Stated stream role) = IsStreamHeld stream
 IsEventHeld (event.Adopted node vb log) = IsPlace node vb × IsLogHeld log
 IsEventHeld (event.Ranged node vb ss se) = IsPlace node vb × IsLong ss × IsLong se
 IsEventHeld (event.Got node vb stream change) = IsPlace node vb × IsStreamHeld stream × IsChangeHeld change

@@ -71,6 +71,8 @@ pub record ClientsInLetters : Type 0 where
   pub item : event_text (event.Item (stream.Client 0 1) 2 sent.Set (0x6b ∷ [])) ≡ codes "item C0.1 2 set 6b"
   pub finished : event_text (event.Finished (stream.Client 0 1) 2) ≡ codes "fin C0.1 2"
   pub wide : event_text (event.Finished (stream.Client 255 4294967295) 2) ≡ codes "fin C255.4294967295 2"
+  pub state_replica : event_text (event.Stated (stream.Client 0 1) role.Replica) ≡ codes "state C0.1 replica"
+  pub state_dead : event_text (event.Stated (stream.Client 255 4294967295) role.Dead) ≡ codes "state C255.4294967295 dead"
 
 -- the words of roles, of acts and of ends, each of one alone
 pub record WordsInLetters : Type 0 where

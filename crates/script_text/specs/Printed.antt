@@ -34,4 +34,6 @@ pub record LinesInLetters : Type 0 where
   pub marked : event_text (event.Marked (stream.Link 1) 2 3 4) ≡ codes "mark L1 2 3 4"
   pub item : event_text (event.Item (stream.Link 1) 2 sent.Remove []) ≡ codes "item L1 2 remove -"
   pub finished : event_text (event.Finished (stream.Link 1) 2) ≡ codes "fin L1 2"
+  pub state_pending : event_text (event.Stated (stream.Link 1) role.Pending) ≡ codes "state L1 pending"
+  pub state_active : event_text (event.Stated (stream.Link 4294967295) role.Active) ≡ codes "state L4294967295 active"
   pub closed : event_text (event.Closed 1 2) ≡ codes "closed 1 2"

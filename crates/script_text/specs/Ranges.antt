@@ -76,6 +76,7 @@ IsEventRanged (event.Asked stream node vb ask high log answer) =
 IsEventRanged (event.Marked stream start end flags) = IsStreamRanged stream × IsWide start × IsWide end × IsWide flags
 IsEventRanged (event.Item stream seq act key) = IsStreamRanged stream × IsWide seq × IsBytes key
 IsEventRanged (event.Finished stream reason) = IsStreamRanged stream × IsWide reason
+IsEventRanged (event.Stated stream role) = IsStreamRanged stream
 IsEventRanged (event.Adopted node vb log) = IsWide node × IsWide vb × All IsEntryRanged log
 IsEventRanged (event.Ranged node vb ss se) = IsWide node × IsWide vb × IsWide ss × IsWide se
 IsEventRanged (event.Got node vb stream change) = IsWide node × IsWide vb × IsStreamRanged stream × IsChangeRanged change

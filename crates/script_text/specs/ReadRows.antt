@@ -7,6 +7,8 @@ use Rattle.vb_events.specs.declared.event.Event.TheVariants as event
 use Rattle.vb_events.specs.declared.event.Group.{Group}
 use Rattle.vb_events.specs.declared.event.ItemAct.TheVariants as sent
 use Rattle.vb_events.specs.declared.event.StreamName.TheVariants as stream
+use Rattle.vb_events.specs.declared.event.Why.{Why}
+use Rattle.vb_events.specs.declared.event.Why.TheVariants as why
 use Rattle.vb_types.specs.declared.stream.AskAnswer.TheVariants as asked
 use Rattle.script_text.specs.Letters.{some_ask, some_log}
 use Rattle.script_text.specs.ReadBack.{IsTranscript, BreaksAt}
@@ -22,6 +24,10 @@ pub record ReadInLetters : Type 0 where
   pub two : IsTranscript (codes "#2\nclosed 0 0\nok\n#1\nok\n") (carried_out 2 (event.Closed 0 0 ∷ []) ∷ carried_out 1 [] ∷ [])
   pub wide : IsTranscript (codes "#1\nrole 255 65535 dead\nok\n") (carried_out 1 (event.Role 255 65535 role.Dead ∷ []) ∷ [])
 
+-- a group of this script line that asked for frames: what was put, how many frames, and why no more
+abbrev pub pulled : ℕ → List Event → ℕ → Why → Group
+pulled number events frames why = record { line = number; events = events; answer = answer.Pulled frames why }
+
 -- lines of a stream of a client's connection, and the widest numbers of one
 pub record ClientsReadInLetters : Type 0 where
   pub asked : IsTranscript (codes "#1\nask C0.1 2 3 5 6 7 8 9 10 4 11:12,13:14 go\nok\n")
@@ -30,6 +36,16 @@ pub record ClientsReadInLetters : Type 0 where
   pub item : IsTranscript (codes "#1\nitem C0.1 2 set 6b\nok\n") (carried_out 1 (event.Item (stream.Client 0 1) 2 sent.Set (0x6b ∷ []) ∷ []) ∷ [])
   pub finished : IsTranscript (codes "#1\nfin C0.1 2\nok\n") (carried_out 1 (event.Finished (stream.Client 0 1) 2 ∷ []) ∷ [])
   pub wide : IsTranscript (codes "#1\nfin C255.4294967295 2\nok\n") (carried_out 1 (event.Finished (stream.Client 255 4294967295) 2 ∷ []) ∷ [])
+
+-- each role that a state tells, of a stream of a link and of a client's connection; the widest number of a link; and a pull that
+-- waits for the answer to a state, with no frame, with some, and with the most
+pub record StatesReadInLetters : Type 0 where
+  pub pending : IsTranscript (codes "#1\nstate L1 pending\nok 4 wait-state\n") (pulled 1 (event.Stated (stream.Link 1) role.Pending ∷ []) 4 why.WaitState ∷ [])
+  pub active : IsTranscript (codes "#1\nstate C0.1 active\nok 1 wait-state\n") (pulled 1 (event.Stated (stream.Client 0 1) role.Active ∷ []) 1 why.WaitState ∷ [])
+  pub replica : IsTranscript (codes "#1\nstate L0 replica\nok\n") (carried_out 1 (event.Stated (stream.Link 0) role.Replica ∷ []) ∷ [])
+  pub dead : IsTranscript (codes "#1\nstate L4294967295 dead\nok\n") (carried_out 1 (event.Stated (stream.Link 4294967295) role.Dead ∷ []) ∷ [])
+  pub none : IsTranscript (codes "#1\nok 0 wait-state\n") (pulled 1 [] 0 why.WaitState ∷ [])
+  pub most : IsTranscript (codes "#1\nok 18446744073709551615 wait-state\n") (pulled 1 [] 18446744073709551615 why.WaitState ∷ [])
 
 -- Lines out of place; a last line with no newline; an end inside a group; and lines that are none: zeros in front, a number that
 -- is too wide, a word too few and too many, two spaces, no word, an empty line, digits of the other case, and an unknown word.
@@ -70,3 +86,30 @@ pub record ClientsBreakInLetters : Type 0 where
   pub asked : BreaksAt (codes "#1\nask C00.1 2 3 5 6 7 8 9 10 4 - go\nok\n") 2
   pub marked : BreaksAt (codes "#1\nmark C0 2 3 4\nok\n") 2
   pub item : BreaksAt (codes "#1\nitem C0.01 2 set 6b\nok\n") 2
+
+-- Other spellings of a state: a role of another case, no role, a word behind it, a role that is none, a number, and a word that goes
+-- on; no stream, a stream of a number alone, with zeros in front, of the other case, that is too wide, and a vBucket of a node; the line's
+-- word of another case, and another one. And other spellings of a pull that waits: of another case, with no dash, with a space,
+-- a word that goes on or stops short, no number, and a word behind it.
+pub record StatesBreakInLetters : Type 0 where
+  pub other_case : BreaksAt (codes "#1\nstate L1 Pending\nok\n") 2
+  pub no_role : BreaksAt (codes "#1\nstate L1\nok\n") 2
+  pub more : BreaksAt (codes "#1\nstate L1 pending x\nok\n") 2
+  pub no_such_role : BreaksAt (codes "#1\nstate L1 waiting\nok\n") 2
+  pub number : BreaksAt (codes "#1\nstate L1 3\nok\n") 2
+  pub longer : BreaksAt (codes "#1\nstate L1 actively\nok\n") 2
+  pub no_stream : BreaksAt (codes "#1\nstate pending\nok\n") 2
+  pub no_letter : BreaksAt (codes "#1\nstate 1 pending\nok\n") 2
+  pub zeros : BreaksAt (codes "#1\nstate L01 pending\nok\n") 2
+  pub small_letter : BreaksAt (codes "#1\nstate l1 pending\nok\n") 2
+  pub wide : BreaksAt (codes "#1\nstate L4294967296 pending\nok\n") 2
+  pub vb : BreaksAt (codes "#1\nstate 1 0 pending\nok\n") 2
+  pub capital : BreaksAt (codes "#1\nState L1 pending\nok\n") 2
+  pub other_word : BreaksAt (codes "#1\nstat L1 pending\nok\n") 2
+  pub waits_case : BreaksAt (codes "#1\nok 4 wait-State\n") 2
+  pub waits_no_dash : BreaksAt (codes "#1\nok 4 waitstate\n") 2
+  pub waits_space : BreaksAt (codes "#1\nok 4 wait state\n") 2
+  pub waits_longer : BreaksAt (codes "#1\nok 4 wait-stated\n") 2
+  pub waits_shorter : BreaksAt (codes "#1\nok 4 wait-\n") 2
+  pub waits_alone : BreaksAt (codes "#1\nok wait-state\n") 2
+  pub waits_more : BreaksAt (codes "#1\nok 4 wait-state 4\n") 2

@@ -121,6 +121,7 @@ as_why word =
     if bytes_eq word (codes "-") then why.All
     else if bytes_eq word (codes "idle") then why.Idle
     else if bytes_eq word (codes "full") then why.Full
+    else if bytes_eq word (codes "wait-state") then why.WaitState
     else why.WaitSaved
 
 -- why a line was refused that has to do with nodes that stop, with saving, or with what is open

@@ -137,6 +137,7 @@ as_streamed words =
     else if bytes_eq (word_at words 0) (codes "item")
     then as_item words
     else if bytes_eq (word_at words 0) (codes "fin") then Some (event.Finished (as_stream (word_at words 1)) (int_at words 2))
+    else if bytes_eq (word_at words 0) (codes "state") then Some (event.Stated (as_stream (word_at words 1)) (as_role (word_at words 2)))
     else as_follower words
 
 -- a branch that was made

@@ -192,6 +192,7 @@ stream_words (event.Marked stream start end flags) =
 stream_words (event.Item stream seq act key) =
     codes "item" ∷ stream_text stream ∷ decimal seq ∷ sent_text act ∷ hex_text key ∷ []
 stream_words (event.Finished stream reason) = codes "fin" ∷ stream_text stream ∷ decimal reason ∷ []
+stream_words (event.Stated stream role) = codes "state" ∷ stream_text stream ∷ role_text role ∷ []
 stream_words other = follower_words other
 
 -- the words of an event's line
@@ -236,6 +237,7 @@ abbrev pub why_text : Why → List ℕ
 why_text why.All = codes "-"
 why_text why.Idle = codes "idle"
 why_text why.Full = codes "full"
+why_text why.WaitState = codes "wait-state"
 why_text why.WaitSaved = codes "wait-saved"
 
 -- the answer to a script line: `ok`, with its number or with what was put, or `no` and the cause

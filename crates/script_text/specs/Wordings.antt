@@ -160,6 +160,14 @@ pub record WindowWords : Type 0 where
   pub full : IsWordOf Why why_text why.Full (codes "full")
   pub stops : (frames : ℕ) → answer_text (answer.Pulled frames why.Full) ≡ codes "ok " ++ decimal frames ++ codes " full"
 
+-- why no more frames were put where a state is not answered yet, a pull that stops there, and a state that is put, word by word
+pub record StateWords : Type 0 where
+  pub waits : IsWordOf Why why_text why.WaitState (codes "wait-state")
+  pub stops : (frames : ℕ) → answer_text (answer.Pulled frames why.WaitState) ≡ codes "ok " ++ decimal frames ++ codes " wait-state"
+  pub link : (link : ℕ) (role : Role) → event_text (event.Stated (stream.Link link) role) ≡ codes "state L" ++ decimal link ++ 32 ∷ role_text role
+  pub client : (node client : ℕ) (role : Role)
+      → event_text (event.Stated (stream.Client node client) role) ≡ codes "state C" ++ decimal node ++ 46 ∷ (decimal client ++ 32 ∷ role_text role)
+
 -- lines of links, with no buffer, with some, and at the limits
 pub record LinksAreRead : Type 0 where
   pub none : verb_by_letters (codes "link 1 2 3 4 0 follow") ≡ Some (verb.Link 1 2 3 4 0)

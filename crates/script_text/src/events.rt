@@ -11,7 +11,7 @@ use crate::parts::{
 use bytes::BytesMut;
 use std::alloc::AllocError;
 use vb_events::{Event, ItemAct, StreamName};
-use vb_types::{AskAnswer, Change, Doc, Level, LogEntry};
+use vb_types::{AskAnswer, Change, Doc, Level, LogEntry, Role};
 
 /// An event's line, without its newline.
 #[tactic(auto, unfolding(crate::specs::Transcript::event_text))]
@@ -130,6 +130,7 @@ fn push_stream_event(text: &mut BytesMut, event: &Event) -> Result<(), AllocErro
             push_named(text, b"fin", *stream)?;
             push_number(text, b' ', u64::from(*reason))
         }
+        Event::Stated { stream, role } => push_stated(text, *stream, *role),
         other => push_follower_event(text, other),
     }
 }
@@ -188,6 +189,15 @@ fn push_sent(text: &mut BytesMut, act: ItemAct, key: &[u8]) -> Result<(), AllocE
 {
     push_word(text, sent_word(act))?;
     push_hex(text, key)
+}
+
+/// The line of a state that is put on a stream.
+fn push_stated(text: &mut BytesMut, stream: StreamName, role: Role) -> Result<(), AllocError>
+    ensures ok { OnOk result (text.new.items ≡ text.old.items ++ spaced (stream_words (event.Stated stream role))) }
+    ensures err { OnErr result (StartsWith text.new.items text.old.items) }
+{
+    push_named(text, b"state", stream)?;
+    push_word(text, role_word(role))
 }
 
 /// The line of an event of a consumer or its link. The kinds below have theirs there.

@@ -11,7 +11,7 @@ ghost use Rattle.script_text.specs.Ranges.{IsGroupRanged};
 ghost use Rattle.script_text.specs.Transcript.{hex_text, print_of};
 ghost use Rattle.vb_events.specs.declared.event.Group.{Group};
 ghost use Rattle.script_text.specs.Scripts.{line_said, IsScript, FirstBad};
-ghost use Rattle.script_text.specs.Wordings.{LevelsInWords, ActsInWords, DurableWords, ChainsInWords, ChainsAreRead, ChainsAreRefused, AcknowledgementWords, SavingInWords, SavingWords, StopsInWords, StopWords, StopsAreRead, StopsAreRefused, WindowWords, LinksAreRead, LinksAreRefused, PullsAreRead, PullsAreRefused};
+ghost use Rattle.script_text.specs.Wordings.{LevelsInWords, ActsInWords, DurableWords, ChainsInWords, ChainsAreRead, ChainsAreRefused, AcknowledgementWords, SavingInWords, SavingWords, StopsInWords, StopWords, StopsAreRead, StopsAreRefused, WindowWords, StateWords, LinksAreRead, LinksAreRefused, PullsAreRead, PullsAreRefused};
 ghost use Rattle.script_text.specs.Letters.{ChangesInLetters, ClientsInLetters, GroupsInLetters, StreamsInLetters, WordsInLetters};
 ghost use Rattle.script_text.specs.Printed.{CausesInLetters, LinesInLetters};
 ghost use Rattle.script_text.specs.declared.script.Said.TheVariants as said;
@@ -114,6 +114,12 @@ pub fn windows_in_words()
     ensures words { WindowWords }
     ensures read { LinksAreRead }
     ensures refused { LinksAreRefused }
+{}
+
+/// A vBucket that is handed over has words of its own: `state`, the stream and a role where a state is put,
+/// and `wait-state` where a pull waits for the answer to one.
+pub fn states_in_words()
+    ensures { StateWords }
 {}
 
 /// Stream frames are asked for by `pull`, of a client's connection, and by `pump`, of a link. These lines

@@ -366,6 +366,7 @@ pub fn why_word(why: Why) -> &'static str
         Why::All => "-",
         Why::Idle => "idle",
         Why::Full => "full",
+        Why::WaitState => "wait-state",
         Why::WaitSaved => "wait-saved",
     }
 }

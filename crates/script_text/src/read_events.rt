@@ -99,6 +99,11 @@ fn stream_event(alloc: Global, words: &[&[u8]]) -> Result<Option<Event>, AllocEr
             stream: stream(word_at(words, 1)),
             reason: int(word_at(words, 2)),
         }))
+    } else if says(word, b"state") {
+        Ok(Some(Event::Stated {
+            stream: stream(word_at(words, 1)),
+            role: role(word_at(words, 2)),
+        }))
     } else {
         follower_event(alloc, words)
     }

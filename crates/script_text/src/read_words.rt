@@ -183,6 +183,8 @@ pub fn why(word: &[u8]) -> Why
         Why::Idle
     } else if says(word, b"full") {
         Why::Full
+    } else if says(word, b"wait-state") {
+        Why::WaitState
     } else {
         Why::WaitSaved
     }

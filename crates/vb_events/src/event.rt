@@ -68,6 +68,12 @@ pub enum Event {
         stream: StreamName,
         reason: u32,
     },
+    /// A state was put on a stream that takes a vBucket over: the role that its consumer's vBucket is
+    /// to have next.
+    Stated {
+        stream: StreamName,
+        role: Role,
+    },
     /// A consumer took over the failover log that its producer told.
     Adopted {
         node: u8,
@@ -223,6 +229,8 @@ pub enum Why {
     Idle,
     /// The connection's window is shut, until its consumer acknowledges bytes or asks for another size.
     Full,
+    /// A stream that hands its vBucket over waits for the answer to a state that it put.
+    WaitState,
     /// A stream goes on once more of its vBucket is saved.
     WaitSaved,
 }

@@ -1,11 +1,12 @@
 //! Printed lines that no script shows: ends of links that a sound node does not bring about, the greatest
-//! numbers of a line and of a client's connection, and other spellings of one.
+//! numbers of a line and of a client's connection, and other spellings of one; states that are put on a
+//! stream, pulls that wait for the answer to one, and other spellings of both.
 use bytes::BytesMut;
 use script_text::{parse_transcript, print};
 use std::alloc::{AllocError, Global};
 use std::test::Fail;
-use vb_events::{Answer, EndReason, Event, Group, StreamName};
-use vb_types::Listed;
+use vb_events::{Answer, EndReason, Event, Group, StreamName, Why};
+use vb_types::{Listed, Role};
 
 /// The text of a group.
 fn printed(alloc: Global, group: &Group) -> Result<BytesMut, Fail> {
@@ -116,5 +117,89 @@ fn first_read(alloc: Global, texts: &[&[u8]]) -> Result<Option<usize>, AllocErro
 #[test]
 fn other_spellings_of_a_client_are_bad(rt: HostRuntime) -> Result<(), Fail> {
     assert_eq!(rt; first_read(rt.alloc(), &OTHER_CLIENTS)?, None);
+    Ok(())
+}
+
+/// A group in which a pull put a state, and waits for the answer to it.
+fn told(alloc: Global, line: u64, stream: StreamName, role: Role) -> Result<Group, Fail> {
+    // Another number in each of the four groups.
+    let frames = 5u64.saturating_sub(line);
+    Ok(Group {
+        line,
+        events: Listed::one(alloc, Event::Stated { stream, role })?,
+        answer: Answer::Pulled(frames, Why::WaitState),
+    })
+}
+
+/// The text of a group of each role that a state tells.
+fn printed_states(alloc: Global) -> Result<BytesMut, Fail> {
+    let mut out = BytesMut::new(alloc);
+    let widest = StreamName::Client(u8::MAX, u32::MAX);
+    print(
+        alloc,
+        &told(alloc, 1, StreamName::Link(1), Role::Pending)?,
+        &mut out,
+    )?;
+    print(
+        alloc,
+        &told(alloc, 2, StreamName::Link(u32::MAX), Role::Active)?,
+        &mut out,
+    )?;
+    print(
+        alloc,
+        &told(alloc, 3, StreamName::Client(0, 1), Role::Replica)?,
+        &mut out,
+    )?;
+    print(alloc, &told(alloc, 4, widest, Role::Dead)?, &mut out)?;
+    Ok(out)
+}
+
+const STATES: &[u8] = b"#1\nstate L1 pending\nok 4 wait-state\n\
+#2\nstate L4294967295 active\nok 3 wait-state\n\
+#3\nstate C0.1 replica\nok 2 wait-state\n\
+#4\nstate C255.4294967295 dead\nok 1 wait-state\n";
+
+#[test]
+fn states_are_printed(rt: HostRuntime) -> Result<(), Fail> {
+    assert_eq!(rt; printed_states(rt.alloc())?.as_slice(), STATES);
+    Ok(())
+}
+
+/// What the groups of a transcript print, if it is one.
+fn printed_again(alloc: Global, text: &[u8]) -> Result<BytesMut, Fail> {
+    let mut out = BytesMut::new(alloc);
+    if let Ok(groups) = parse_transcript(alloc, text)? {
+        for group in groups.as_slice() {
+            print(alloc, group, &mut out)?;
+        }
+    }
+    Ok(out)
+}
+
+#[test]
+fn states_are_read(rt: HostRuntime) -> Result<(), Fail> {
+    assert_eq!(rt; printed_again(rt.alloc(), STATES)?.as_slice(), STATES);
+    Ok(())
+}
+
+// Transcripts that break off at their second line.
+const OTHER_STATES: [&[u8]; 12] = [
+    b"#10\nstate L1 Pending\nok\n",
+    b"#10\nstate L1\nok\n",
+    b"#10\nstate L1 pending x\nok\n",
+    b"#10\nstate pending\nok\n",
+    b"#10\nstate 1 pending\nok\n",
+    b"#10\nstate L01 pending\nok\n",
+    b"#10\nstate L1 pendin\nok\n",
+    b"#10\nState L1 pending\nok\n",
+    b"#10\nok 4 wait-State\n",
+    b"#10\nok 4 wait-stat\n",
+    b"#10\nok wait-state\n",
+    b"#10\nok 4 wait-state 4\n",
+];
+
+#[test]
+fn other_spellings_of_states_are_bad(rt: HostRuntime) -> Result<(), Fail> {
+    assert_eq!(rt; first_read(rt.alloc(), &OTHER_STATES)?, None);
     Ok(())
 }

@@ -1,4 +1,4 @@
-use Rattle.script_text.proofs.ReadRows.{read, breaks, clients, clients_break}
+use Rattle.script_text.proofs.ReadRows.{read, breaks, clients, clients_break, states, states_break}
 use Rattle.script_text.proofs.read_laws.read_in_letters.Goals as goal
 
 pub returns-clause-read : goal.returns-clause-read
@@ -12,3 +12,9 @@ returns-clause-clients c = clients
 
 pub returns-clause-clients_break : goal.returns-clause-clients_break
 returns-clause-clients_break c = clients_break
+
+pub returns-clause-states : goal.returns-clause-states
+returns-clause-states c = states
+
+pub returns-clause-states_break : goal.returns-clause-states_break
+returns-clause-states_break c = states_break
