@@ -45,6 +45,7 @@ mod Takeovers
 mod Turns
 mod Writing
 mod Batching
+mod Highs
 mod Counted
 mod Rolling
 mod Steadying

@@ -5,6 +5,7 @@
 mod durable_laws;
 mod following;
 mod laws;
+mod machine;
 mod role_laws;
 mod row_laws;
 mod streams;
@@ -23,10 +24,11 @@ pub use laws::{
     rollbacks_leave_nothing, spans_are_filled, stays_sound, streams_are_closed,
     takes_are_snapshots, writes_are_read, written_ones_are_loaded,
 };
+pub use machine::{TurnVb, VbSeat};
 pub use role_laws::{heirs_own, pends_wait, yields_keep_one};
 pub use row_laws::{
-    new_ones_are_empty, no_first_markers_are_awaited, snapshots_start_in_numbers,
-    vbuckets_are_shown,
+    highs_are_last_seqnos, highs_in_numbers, new_ones_are_empty, no_first_markers_are_awaited,
+    snapshots_start_in_numbers, vbuckets_are_shown,
 };
 pub use vb_map::{VbMap, VbSlot};
 pub use vbucket::VBucket;

@@ -11,7 +11,9 @@ ghost use Rattle.vb_types.specs.declared.position.Position.{Position as At};
 ghost use Rattle.vb_types.specs.declared.role.LogEntry.{LogEntry as Entry};
 ghost use Rattle.vb_types.specs.declared.role.Role.{Role as RoleData};
 ghost use Rattle.vb_types.specs.declared.role.Role.TheVariants.{Active, Dead, Pending, Replica};
+ghost use Rattle.vb_turn.specs.History.{after, Legal, top};
 ghost use Rattle.vbucket.specs.Firsts.{asked_for, given_to};
+ghost use Rattle.vbucket.specs.Highs.{follower_at, high_of, rolled_back, HighsAreLast};
 
 /// Neither a vBucket that was made nor one that was loaded awaits a first marker: it took no log over.
 pub fn no_first_markers_are_awaited()
@@ -54,4 +56,17 @@ pub fn snapshots_start_in_numbers()
     ensures later { (start_of (given_to 12 (asked_for true 5 3 9)) ≡ 12) × (need_of (given_to 12 (asked_for true 5 3 9)) ≡ 0) × (is_plain_next (given_to 12 (asked_for true 5 3 9)) ≡ false) }
     ensures memory { (items : List ChangeData) → ((snapshot_of (asked_for true 5 3 9) items).disk ≡ false) × ((snapshot_of (asked_for true 5 3 9) items).start ≡ 3) × ((snapshot_of (asked_for true 5 3 9) items).items ≡ items) }
     ensures plain { (is_plain_next (asked_for false 9 4 9) ≡ true) × (is_plain_next (given_to 12 (asked_for false 5 3 9)) ≡ true) }
+{}
+
+/// The number that a vBucket shows as it is called in turns is its last seqno: that which it tells among
+/// its numbers, that of a write just made, and the one that a rollback went back to.
+pub fn highs_are_last_seqnos()
+    ensures { HighsAreLast }
+{}
+
+/// A follower at 8 that goes back to 3 shows 3, and the history has shown 8, as before.
+pub fn highs_in_numbers()
+    ensures legal { (vb : Plain) (image : Picture) (cas : ℕ) → Legal plain_step (follower_at 8 vb) (rolled_back 3 image cas) }
+    ensures lower { (vb : Plain) (image : Picture) (cas : ℕ) → (high_of (follower_at 8 vb) ≡ 8) × (high_of (after plain_step (follower_at 8 vb) (rolled_back 3 image cas)) ≡ 3) }
+    ensures stays { (vb : Plain) (image : Picture) (cas : ℕ) → (top plain_step high_of (follower_at 8 vb) [] ≡ 8) × (top plain_step high_of (follower_at 8 vb) (rolled_back 3 image cas) ≡ 8) }
 {}

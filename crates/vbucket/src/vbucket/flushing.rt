@@ -2,10 +2,12 @@
 ghost use Rattle.std.specs.Prelude.{◌≡◌, true, max, IfOk, OnErr};
 ghost use Rattle.vb_calls.specs.Forms.{HasForm};
 ghost use Rattle.vb_calls.specs.declared.calls.VbCall.TheVariants.{FlushTake};
+ghost use Rattle.vb_calls.specs.Plain.{Plain};
 ghost use Rattle.vb_calls.specs.State.{is_active};
 ghost use Rattle.vb_calls.specs.declared.calls.VbAnswer.TheVariants.{Num};
 ghost use Rattle.vbucket.specs.Kept.{kept_flush, kept_stat};
 ghost use Rattle.vbucket.specs.Settling.{kept_flushed};
+ghost use Rattle.vbucket.specs.Stands.{StandsFor};
 
 use super::VBucket;
 use super::settling::Plan;
@@ -78,5 +80,13 @@ impl VBucket {
             saved: self.saved,
             high: self.position.at,
         })
+    }
+
+    /// The last seqno.
+    #[tactic(auto, unfolding(crate::specs::Stands::StandsFor))]
+    pub fn high(&self) -> u64
+        ensures { (s : Plain) → StandsFor self.now s → result ≡ s.position.at }
+    {
+        self.position.at
     }
 }
