@@ -1,7 +1,7 @@
 -- a pull in which who was quiet is passed over, beside one that asks everybody, over plain vBuckets
-use Rattle.std.proofs.Common.{◌≡◌, ◌≢◌, ℕ, zero, suc, Bool, true, false, List, [], ◌∷◌, ◌++◌, refl, sym, ap, ◌∙◌, inr}
-use Rattle.std.specs.Prelude.{◌||◌, ◌&&◌}
-use Rattle.std.specs.List.{All, list_any}
+use Rattle.std.proofs.Common.{◌≡◌, ◌≢◌, ℕ, zero, suc, true, false, List, [], ◌∷◌, ◌++◌, refl, sym, ap, ◌∙◌, inr}
+use Rattle.std.specs.Prelude.{if◌then◌else◌}
+use Rattle.std.specs.List.{All}
 use Rattle.std.proofs.lemmas.Bool.{false≢true}
 use Rattle.std.proofs.lemmas.List.Elements.{All-head, All-tail, All-nil, All-cons, All-append}
 use Rattle.vb_events.specs.declared.event.StreamName.{StreamName}
@@ -9,10 +9,12 @@ use Rattle.vb_calls.specs.States.{States}
 use Rattle.vb_calls.specs.Programs.{Prog, Done, Call, bind, after, Turn, More, Stop, go_on, repeated, AnyCall, Always}
 use Rattle.vb_calls.proofs.Binds.{bind_done, bind_assoc, bind_same}
 use Rattle.dcp_producer.specs.declared.next_frame.NextFrame.TheVariants as next
+use Rattle.dcp_producer.specs.declared.next_frame.Waits.{Waits}
+use Rattle.dcp_producer.specs.declared.next_frame.Waits.TheVariants as wait
 use Rattle.dcp_producer.specs.Frames.{Next, next_frame}
 use Rattle.dcp_producer.specs.Producers.{PlainStream}
-use Rattle.dcp_producer.specs.Pulling.{QuietOnes, is_quiet, with_quiet}
-use Rattle.dcp_producer.proofs.Awake.{any_more, or_false, or_no, quiet_same, quiet_then, says_wait}
+use Rattle.dcp_producer.specs.Pulling.{QuietOnes, first_wait, is_quiet, with_quiet}
+use Rattle.dcp_producer.proofs.Awake.{quiet_same, quiet_then, says_wait, wait_none, wait_turned, waits_in, waits_more}
 use Rattle.dcp_producer.proofs.Stills.{IsStill, same_next, still_again}
 
 -- ---- turns, the first one first
@@ -47,30 +49,23 @@ each_so : (P Q R : PlainStream → Type 0) → ((x : PlainStream) → P x → Q 
 each_so P Q R so [] p q = All-nil R
 each_so P Q R so (x ∷ xs) p q = All-cons R x xs (so x (All-head P x xs p) (All-head Q x xs q)) (each_so P Q R so xs (All-tail P x xs p) (All-tail Q x xs q))
 
-any_same : (f g : PlainStream → Bool) (xs : List PlainStream) → All (λ x. f x ≡ g x) xs → list_any f xs ≡ list_any g xs
-any_same f g [] all = refl
-any_same f g (x ∷ xs) all = λ i. All-head (λ (y : PlainStream). f y ≡ g y) x xs all i || any_same f g xs (All-tail (λ (y : PlainStream). f y ≡ g y) x xs all) i
-
--- the first one comes last
-or_turned : (a b : Bool) → (a || b) ≡ (b || (a || false))
-or_turned true true = refl
-or_turned true false = refl
-or_turned false true = refl
-or_turned false false = refl
+waits_same : (f g : PlainStream → Waits) (xs : List PlainStream) → All (λ x. f x ≡ g x) xs → waits_in f xs ≡ waits_in g xs
+waits_same f g [] all = refl
+waits_same f g (x ∷ xs) all = λ i. first_wait (All-head (λ (y : PlainStream). f y ≡ g y) x xs all i) (waits_same f g xs (All-tail (λ (y : PlainStream). f y ≡ g y) x xs all) i)
 
 module _ (name : StreamName) where
-  -- a stream says that it waits for what is to be saved, over these vBuckets
-  abbrev pub waits_at : States → PlainStream → Bool
+  -- what a stream says that it waits for, over these vBuckets
+  abbrev pub waits_at : States → PlainStream → Waits
   waits_at states stream = says_wait (after (next_frame name stream) states).1.0
 
   -- one that was quiet does
-  abbrev pub waits_now : QuietOnes → States → PlainStream → Bool
-  waits_now q states stream = is_quiet stream.id q && waits_at states stream
+  abbrev pub waits_now : QuietOnes → States → PlainStream → Waits
+  waits_now q states stream = if is_quiet stream.id q then waits_at states stream else wait.Nothing
 
-  -- those that were quiet are so still, and one waits exactly where one of them says so
+  -- those that were quiet are so still, and wait for what they say
   pub record AreStill (q : QuietOnes) (states : States) (order : List PlainStream) : Type 0 where
     pub still : All (λ x. is_quiet x.id q ≡ true → IsStill name x states) order
-    pub waits : q.waits ≡ list_any (waits_now q states) order
+    pub waits : q.waits ≡ waits_in (waits_now q states) order
 
   abbrev pub Still : QuietOnes → States → PlainStream → Type 0
   Still q states x = is_quiet x.id q ≡ true → IsStill name x states
@@ -86,41 +81,41 @@ module _ (name : StreamName) where
     pub passed_still : AreStill q states (rest ++ x ∷ [])
     passed_still = record {
       still = All-append (Still q states) rest (x ∷ []) rest_still (All-cons (Still q states) x [] first_still (All-nil (Still q states)));
-      waits = are.waits ∙ or_turned (waits_now q states x) (list_any (waits_now q states) rest) ∙ sym (any_more (waits_now q states) rest x);
+      waits = are.waits ∙ wait_turned (waits_now q states x) (waits_in (waits_now q states) rest) ∙ sym (waits_more (waits_now q states) rest x);
     }
 
     module _ (fresh : is_quiet x.id q ≡ false) where
-      rest_waits : q.waits ≡ list_any (waits_now q states) rest
-      rest_waits = are.waits ∙ ap (λ b. (b && waits_at states x) || list_any (waits_now q states) rest) fresh
+      rest_waits : q.waits ≡ waits_in (waits_now q states) rest
+      rest_waits = are.waits ∙ ap (λ b. first_wait (if b then waits_at states x else wait.Nothing) (waits_in (waits_now q states) rest)) fresh
 
       -- so does one that is quiet now
-      pub quiet_still : (waits : Bool) → after (next_frame name x) states ≡ (states, (next.Quiet waits, x)) → All (λ y. y.id ≢ x.id) rest → AreStill (with_quiet x.id waits q) states (rest ++ x ∷ [])
+      pub quiet_still : (waits : Waits) → after (next_frame name x) states ≡ (states, (next.Quiet waits, x)) → All (λ y. y.id ≢ x.id) rest → AreStill (with_quiet x.id waits q) states (rest ++ x ∷ [])
       quiet_still waits is differ =
           let q' : QuietOnes = with_quiet x.id waits q in
           let same : All (λ (y : PlainStream). is_quiet y.id q' ≡ is_quiet y.id q) rest =
           each_so (λ (y : PlainStream). y.id ≢ x.id) (λ (y : PlainStream). y.id ≢ x.id) (λ (y : PlainStream). is_quiet y.id q' ≡ is_quiet y.id q) (λ y other other'. quiet_same q x.id waits y.id other) rest differ differ in
           let now : is_quiet x.id q' ≡ true = quiet_then q x.id waits x.id (inr refl) in
-          let last : waits_now q' states x ≡ waits = (λ i. now i && says_wait (is i).1.0) in
+          let last : waits_now q' states x ≡ waits = (λ i. if now i then says_wait (is i).1.0 else wait.Nothing) in
           record {
             still = All-append (Still q' states) rest (x ∷ [])
                 (each_so (Still q states) (λ (y : PlainStream). is_quiet y.id q' ≡ is_quiet y.id q) (Still q' states) (λ y so e quiet. so (sym e ∙ quiet)) rest rest_still same)
                 (All-cons (Still q' states) x [] (λ quiet. (waits, is)) (All-nil (Still q' states)));
-            waits = (λ i. rest_waits i || waits)
-                ∙ (λ i. any_same (waits_now q states) (waits_now q' states) rest
-                (each_so (λ (y : PlainStream). is_quiet y.id q' ≡ is_quiet y.id q) (λ (y : PlainStream). y.id ≢ x.id) (λ (y : PlainStream). waits_now q states y ≡ waits_now q' states y) (λ y e other. ap (λ b. b && waits_at states y) (sym e)) rest same differ) i || waits)
-                ∙ (λ i. list_any (waits_now q' states) rest || sym (or_false waits) i) ∙ (λ i. list_any (waits_now q' states) rest || (sym last i || false))
-                ∙ sym (any_more (waits_now q' states) rest x);
+            waits = (λ i. first_wait (rest_waits i) waits)
+                ∙ (λ i. first_wait (waits_same (waits_now q states) (waits_now q' states) rest
+                (each_so (λ (y : PlainStream). is_quiet y.id q' ≡ is_quiet y.id q) (λ (y : PlainStream). y.id ≢ x.id) (λ (y : PlainStream). waits_now q states y ≡ waits_now q' states y) (λ y e other. ap (λ b. if b then waits_at states y else wait.Nothing) (sym e)) rest same differ) i) waits)
+                ∙ (λ i. first_wait (waits_in (waits_now q' states) rest) (sym last i))
+                ∙ sym (waits_more (waits_now q' states) rest x);
           }
 
       module _ (states' : States) (others : All (λ y. states y.vb ≡ states' y.vb) rest) where
         left_still : All (Still q states') rest
         left_still = each_so (Still q states) (λ (y : PlainStream). states y.vb ≡ states' y.vb) (Still q states') (λ y so same quiet. still_again name y states states' same (so quiet)) rest rest_still others
 
-        left_waits : q.waits ≡ list_any (waits_now q states') rest
+        left_waits : q.waits ≡ waits_in (waits_now q states') rest
         left_waits = rest_waits
-            ∙ any_same (waits_now q states) (waits_now q states') rest
+            ∙ waits_same (waits_now q states) (waits_now q states') rest
             (each_so (λ (y : PlainStream). states y.vb ≡ states' y.vb) (λ (y : PlainStream). states y.vb ≡ states' y.vb) (λ (y : PlainStream). waits_now q states y ≡ waits_now q states' y)
-            (λ y same same'. ap (λ (n : Next). is_quiet y.id q && says_wait n.0) (same_next name y states states' same)) rest others others)
+            (λ y same same'. ap (λ (n : Next). if is_quiet y.id q then says_wait n.0 else wait.Nothing) (same_next name y states states' same)) rest others others)
 
         -- one that is over leaves the others so
         pub end_still : AreStill q states' rest
@@ -133,5 +128,5 @@ module _ (name : StreamName) where
             record {
               still = All-append (Still q states') rest (left ∷ []) left_still
                   (All-cons (Still q states') left [] (λ quiet. absurd (false≢true (sym awake ∙ quiet))) (All-nil (Still q states')));
-              waits = left_waits ∙ sym (or_no (list_any (waits_now q states') rest) (waits_now q states' left) (ap (λ b. b && waits_at states' left) awake)) ∙ sym (any_more (waits_now q states') rest left);
+              waits = left_waits ∙ sym (wait_none (waits_in (waits_now q states') rest)) ∙ (λ i. first_wait (waits_in (waits_now q states') rest) (sym (ap (λ b. if b then waits_at states' left else wait.Nothing) awake) i)) ∙ sym (waits_more (waits_now q states') rest left);
             }

@@ -1,7 +1,8 @@
 -- what each answer keeps of a connection
 use Rattle.std.proofs.Common.{◌≡◌, ℕ, Bool, true, false, List, refl, Option, Some, None, Result, Ok, Err}
-use Rattle.std.specs.Prelude.{if◌then◌else◌, ◌==◌, ◌&&◌, not, is_some, codes}
+use Rattle.std.specs.Prelude.{if◌then◌else◌, ◌==◌, ◌&&◌, not, is_some, codes, map}
 use Rattle.std.specs.List.{list_any}
+use Rattle.std.proofs.lemmas.Bool.{eqb-true}
 use Rattle.std.specs.Str.{bytes_eq}
 use Rattle.mcbp_frame.specs.declared.frame.Frame.{Frame}
 use Rattle.mcbp_frame.specs.declared.frame.TheConstants.{RESPONSE}
@@ -25,7 +26,7 @@ use Rattle.flow_control.specs.declared.window.Window.{Window}
 use Rattle.flow_control.specs.Windows.{with_acked}
 use Rattle.dcp_producer.specs.declared.desk.Handshake.{Handshake}
 use Rattle.dcp_producer.specs.Producers.{PlainStream, PlainProducer, Served, is_open, member_of, stream_at, with_opened, without_stream}
-use Rattle.dcp_producer.specs.Serving.{status_sent, with_handshake, open_refusal, opened_unless, sized, sized_as, controlled, controlled_as, log_of_reply, high_of_reply, ask_verdict, request_refusal, opens, next_stream, with_asked, with_granted, new_stream, stream_answered, opening_requested, refusal_requested, stream_request, stream_closed, closed_sent, log_given, log_sent, log_answered, fed_stream, weighed, counted_by, count_answered, count_requested, acknowledged, message_answered, row_answered, read_answered, frame_answered}
+use Rattle.dcp_producer.specs.Serving.{status_sent, with_handshake, open_refusal, opened_unless, sized, sized_as, controlled, controlled_as, log_of_reply, high_of_reply, ask_verdict, request_refusal, opens, next_stream, with_asked, with_granted, new_stream, stream_answered, opening_requested, refusal_requested, stream_request, stream_closed, closed_sent, log_given, log_sent, log_answered, fed_stream, weighed, counted_by, count_answered, count_requested, acknowledged, message_answered, row_answered, read_answered, frame_answered, heard, is_taken, response_heard}
 use Rattle.dcp_producer.specs.Having.{NoneOf, IsStreamOf}
 use Rattle.dcp_producer.proofs.Finding.{none_back, found_back}
 
@@ -42,6 +43,7 @@ pub record Stays (P : PlainProducer → Type 0) (f : Frame) (end : PlainProducer
   pub window : (w : Window) → P (record end { window = w })
   pub asked : P (with_asked end)
   pub opened : (ask : StreamAsk) → NoneOf f.vb_or_status end.streams → P (with_opened (new_stream (next_stream end) f ask) (with_asked end))
+  pub taken : f.magic ≡ RESPONSE → P (record end { streams = map (heard f.opaque) end.streams })
   pub without : (stream : PlainStream) → IsStreamOf f.vb_or_status stream end.streams → P (without_stream stream.id end)
 
 module _ (P : PlainProducer → Type 0) (f : Frame) (s : Served) (stays : Stays P f s.end) where
@@ -162,11 +164,15 @@ module _ (P : PlainProducer → Type 0) (f : Frame) (s : Served) (stays : Stays 
   read_so None = status_so status.Einval s stays.same
   read_so (Some r) = read_by r (f.datatype == 0)
 
-  frame_by : (drops known : Bool) → Answers (if drops then Done s else if known then read_answered f (read_of f) s else Done (status_sent f status.UnknownCommand s))
-  frame_by true known = stays.same
-  frame_by false true = read_so (read_of f)
-  frame_by false false = status_so status.UnknownCommand s stays.same
+  response_so : f.magic ≡ RESPONSE → (b : Bool) → P (if b then record s { end = record s.end { streams = map (heard f.opaque) s.end.streams } } else s).end
+  response_so is true = stays.taken is
+  response_so is false = stays.same
+
+  frame_by : (drops known : Bool) → (f.magic == RESPONSE) ≡ drops → Answers (if drops then Done (response_heard f s) else if known then read_answered f (read_of f) s else Done (status_sent f status.UnknownCommand s))
+  frame_by true known is = response_so (eqb-true f.magic RESPONSE is) (is_taken f)
+  frame_by false true is = read_so (read_of f)
+  frame_by false false is = status_so status.UnknownCommand s stays.same
 
   pub stays_answered : Answers (frame_answered f s)
   unfolding frame_answered
-  stays_answered = frame_by (f.magic == RESPONSE) (list_any (λ o. o == f.opcode) dcp_opcodes)
+  stays_answered = frame_by (f.magic == RESPONSE) (list_any (λ o. o == f.opcode) dcp_opcodes) refl

@@ -1,10 +1,11 @@
 -- the streams of other vBuckets stay as they are
-use Rattle.std.proofs.Common.{◌≡◌, ℕ, Bool, true, false, List, [], ◌∷◌, ◌++◌, map, refl, sym, ap, ◌∙◌, append-nil, arith}
+use Rattle.std.proofs.Common.{◌≡◌, ◌≢◌, ℕ, Bool, true, false, List, [], ◌∷◌, ◌++◌, map, refl, sym, ap, ◌∙◌, append-nil, arith}
 use Rattle.std.specs.Prelude.{if◌then◌else◌, ◌==◌, ◌&&◌, not}
 use Rattle.std.specs.List.{filter, list_any}
 use Rattle.std.proofs.lemmas.Bool.Decides.{nat_tests}
 use Rattle.std.proofs.lemmas.List.Elements.{filter-append}
 use Rattle.mcbp_frame.specs.declared.frame.Frame.{Frame}
+use Rattle.mcbp_frame.specs.declared.frame.TheConstants.{RESPONSE}
 use Rattle.vb_calls.specs.Programs.{AnyCall, Always}
 use Rattle.dcp_producer.specs.Producers.{PlainStream, PlainProducer, Served, without_stream}
 use Rattle.dcp_producer.specs.Serving.{frame_answered, new_stream, next_stream}
@@ -27,7 +28,7 @@ between v front x back is =
     filter-append (λ (stream : PlainStream). not (stream.vb == v)) front (x ∷ back) ∙ ap (λ ys. those v front ++ ys) (itself v x back is)
     ∙ sym (filter-append (λ (stream : PlainStream). not (stream.vb == v)) front back)
 
-module _ (f : Frame) (s : Served) (sound : IsSound s.end) where
+module _ (f : Frame) (s : Served) (sound : IsSound s.end) (asks : f.magic ≢ RESPONSE) where
   abbrev v : ℕ
   v = f.vb_or_status
 
@@ -46,6 +47,7 @@ module _ (f : Frame) (s : Served) (sound : IsSound s.end) where
     window = λ w. refl;
     asked = refl;
     opened = λ ask none. between v s.end.streams (new_stream (next_stream s.end) f ask) [] refl ∙ ap (those v) (append-nil s.end.streams);
+    taken = λ is. absurd (asks is);
     without = left_others;
   }
 

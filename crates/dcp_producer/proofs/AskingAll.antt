@@ -1,7 +1,7 @@
 -- a pull that passes over who was quiet comes to the same as one that asks everybody
 use Rattle.std.proofs.Common.{◌≡◌, ◌≢◌, ◌+◌, ◌<◌, ℕ, zero, suc, Bool, true, false, List, [], ◌∷◌, ◌++◌, length, refl, sym, ap, ◌∙◌, subst, inl, inr, append-nil, append_assoc, arith, Option, Some, None}
-use Rattle.std.specs.Prelude.{if◌then◌else◌, ◌||◌, ◌&&◌, ◌==◌}
-use Rattle.std.specs.List.{All, list_any}
+use Rattle.std.specs.Prelude.{if◌then◌else◌, ◌==◌}
+use Rattle.std.specs.List.{All}
 use Rattle.std.proofs.lemmas.Bool.{false_from_ne_true, eqb-true}
 use Rattle.std.proofs.lemmas.Bool.Decides.{nat_tests}
 use Rattle.std.proofs.lemmas.List.Elements.{All-head, All-tail, All-nil, All-cons, All-append}
@@ -18,14 +18,16 @@ use Rattle.dcp_producer.specs.declared.halt.Halt.{Halt}
 use Rattle.dcp_producer.specs.declared.halt.Halt.TheVariants as halt
 use Rattle.dcp_producer.specs.declared.next_frame.NextFrame.{NextFrame}
 use Rattle.dcp_producer.specs.declared.next_frame.NextFrame.TheVariants as next
+use Rattle.dcp_producer.specs.declared.next_frame.Waits.{Waits}
+use Rattle.dcp_producer.specs.declared.next_frame.Waits.TheVariants as wait
 use Rattle.dcp_producer.specs.AskingAll.{IsAsIfAllAsked, Tries, all_asked, answered, each_asked, place_behind, tried, turn_behind}
 use Rattle.dcp_producer.specs.Frames.{Next, next_frame}
 use Rattle.dcp_producer.specs.Having.{AreOfOthers, IsSound}
 use Rattle.dcp_producer.specs.Producers.{PlainStream, PlainProducer, Served}
-use Rattle.dcp_producer.specs.Pulling.{Pulling, QuietOnes, came, end_put, frame_put, frames_put, is_quiet, none_quiet, one_frame, one_turn, past_turn, pull_of, pulled, quiet_halt, stream_asked, stream_went, turn_had, turns_came, with_quiet}
+use Rattle.dcp_producer.specs.Pulling.{Pulling, QuietOnes, came, end_put, first_wait, frame_put, frames_put, halt_of, is_quiet, none_quiet, one_frame, one_turn, past_turn, pull_of, pulled, quiet_halt, stream_asked, stream_went, turn_had, turns_came, with_quiet}
 use Rattle.dcp_producer.specs.Turns.{turns_of}
 use Rattle.dcp_producer.proofs.Anew.{AreStill, end_still, first_still, first_turn, passed_still, put_still, quiet_still, waits_at, waits_now}
-use Rattle.dcp_producer.proofs.Awake.{any_more, or_false, quiet_then, says_wait}
+use Rattle.dcp_producer.proofs.Awake.{quiet_then, says_wait, waits_in, waits_more}
 use Rattle.dcp_producer.proofs.Framing.{GoesOn, Same}
 use Rattle.dcp_producer.proofs.Pulling.{all_turns}
 use Rattle.dcp_producer.proofs.Stills.{IsStill, after_same, elsewhere, quiet_leaves}
@@ -49,22 +51,22 @@ AreQuiet q done = All (λ x. is_quiet x.id q ≡ true) done
 -- so it is with these turns, behind those of streams that were quiet
 abbrev TryThem : List PlainStream → Type 0
 TryThem todo =
-    (done : List PlainStream) (waits : Bool) (p : Pulling) (states : States) → Keeps p states → turns_of p.served.end ≡ todo ++ done → AreQuiet p.quiet done → waits ≡ list_any (waits_at p.served.end.desk.stream states) done
+    (done : List PlainStream) (waits : Waits) (p : Pulling) (states : States) → Keeps p states → turns_of p.served.end ≡ todo ++ done → AreQuiet p.quiet done → waits ≡ waits_in (waits_at p.served.end.desk.stream states) done
     → SameTries (after (repeated (length todo) one_turn p) states) (after (each_asked todo waits p.served) states)
 
--- where each one was quiet, one waits as the pull knows it
-all_quiet : (name : StreamName) (q : QuietOnes) (states : States) (xs : List PlainStream) → AreQuiet q xs → list_any (waits_now name q states) xs ≡ list_any (waits_at name states) xs
+-- where each one was quiet, they wait for what the pull knows
+all_quiet : (name : StreamName) (q : QuietOnes) (states : States) (xs : List PlainStream) → AreQuiet q xs → waits_in (waits_now name q states) xs ≡ waits_in (waits_at name states) xs
 all_quiet name q states [] all = refl
 all_quiet name q states (x ∷ xs) all = λ i.
-    (All-head (λ (y : PlainStream). is_quiet y.id q ≡ true) x xs all i && waits_at name states x)
-    || all_quiet name q states xs (All-tail (λ (y : PlainStream). is_quiet y.id q ≡ true) x xs all) i
+    first_wait (if All-head (λ (y : PlainStream). is_quiet y.id q ≡ true) x xs all i then waits_at name states x else wait.Nothing)
+    (all_quiet name q states xs (All-tail (λ (y : PlainStream). is_quiet y.id q ≡ true) x xs all) i)
 
 none_more : TryThem []
 unfolding SameTries
 none_more done waits p states keeps order quiet is =
     let name : StreamName = p.served.end.desk.stream in
-    let known : p.quiet.waits ≡ waits = keeps.still.waits ∙ ap (list_any (waits_now name p.quiet states)) order ∙ all_quiet name p.quiet states done quiet ∙ sym is in
-    (refl, refl, ap (λ b. if b then halt.WaitSaved else halt.Idle) known)
+    let known : p.quiet.waits ≡ waits = keeps.still.waits ∙ ap (waits_in (waits_now name p.quiet states)) order ∙ all_quiet name p.quiet states done quiet ∙ sym is in
+    (refl, refl, ap halt_of known)
 
 -- ---- a turn
 
@@ -141,15 +143,15 @@ module _ (p : Pulling) (states : States) (keeps : Keeps p states) (it : InTurn p
   run = after (next_frame name x) states
 
   -- and where everybody is asked
-  abbrev on : List PlainStream → Bool → Next → Tries
+  abbrev on : List PlainStream → Waits → Next → Tries
   on more waits next = answered next waits (with_one x) (λ waits' s'. each_asked more waits' s')
 
-  all_is : (more : List PlainStream) (waits : Bool) → after (each_asked (x ∷ more) waits s) states ≡ after (on more waits run.1) run.0
+  all_is : (more : List PlainStream) (waits : Waits) → after (each_asked (x ∷ more) waits s) states ≡ after (on more waits run.1) run.0
   all_is more waits =
       after_bind (next_frame name x) (λ next. answered next waits (turn_behind x s) (λ waits' s'. each_asked more waits' s')) states
       ∙ (λ i. after (answered run.1 waits (turn_put i) (λ waits' s'. each_asked more waits' s')) run.0)
 
-  module _ (more : List PlainStream) (later : TryThem more) (done : List PlainStream) (order : rest ≡ more ++ done) (quiet : AreQuiet p.quiet done) (waits : Bool) (is : waits ≡ list_any (waits_at name states) done) where
+  module _ (more : List PlainStream) (later : TryThem more) (done : List PlainStream) (order : rest ≡ more ++ done) (quiet : AreQuiet p.quiet done) (waits : Waits) (is : waits ≡ waits_in (waits_at name states) done) where
     abbrev Goes : Prog (Turn Pulling Pulling) → Type 0
     Goes prog = SameTries (after (bind prog (go_on (repeated (length more) one_turn))) states) (after (on more waits run.1) run.0)
 
@@ -157,15 +159,15 @@ module _ (p : Pulling) (states : States) (keeps : Keeps p states) (it : InTurn p
     order_is = order_with p.served.end sound it x itself ∙ ap (λ xs. xs ++ x ∷ []) order ∙ append_assoc more done (x ∷ [])
 
     -- behind a turn in which it was quiet, now or before
-    goes_on : (q : QuietOnes) (saves : Bool) → run ≡ (states, (next.Quiet saves, x)) → AreStill name q states (rest ++ x ∷ []) → AreQuiet q (done ++ x ∷ [])
+    goes_on : (q : QuietOnes) (saves : Waits) → run ≡ (states, (next.Quiet saves, x)) → AreStill name q states (rest ++ x ∷ []) → AreQuiet q (done ++ x ∷ [])
         → SameTries (after (repeated (length more) one_turn (pull_of (with_one x) q)) states) (after (on more waits run.1) run.0)
     goes_on q saves comes still all =
         let now : waits_at name states x ≡ saves = ap (λ (y : States × Next). says_wait y.1.0) comes in
-        let told : waits || saves ≡ list_any (waits_at name states) (done ++ x ∷ []) =
-        (λ i. is i || saves) ∙ (λ i. list_any (waits_at name states) done || sym (or_false saves) i) ∙ (λ i. list_any (waits_at name states) done || (sym now i || false)) ∙ sym (any_more (waits_at name states) done x) in
+        let told : first_wait waits saves ≡ waits_in (waits_at name states) (done ++ x ∷ []) =
+        (λ i. first_wait (is i) saves) ∙ (λ i. first_wait (waits_in (waits_at name states) done) (sym now i)) ∙ sym (waits_more (waits_at name states) done x) in
         subst (SameTries (after (repeated (length more) one_turn (pull_of (with_one x) q)) states))
-        (sym ((λ i. after (on more waits (comes i).1) (comes i).0) ∙ (λ i. after (each_asked more (waits || saves) (went x itself i)) states)))
-        (later (done ++ x ∷ []) (waits || saves) (pull_of (with_one x) q) states
+        (sym ((λ i. after (on more waits (comes i).1) (comes i).0) ∙ (λ i. after (each_asked more (first_wait waits saves) (went x itself i)) states)))
+        (later (done ++ x ∷ []) (first_wait waits saves) (pull_of (with_one x) q) states
         (record { sound = sound_with p.served.end sound it x itself; still = subst (AreStill name q states) (sym (order_with p.served.end sound it x itself)) still })
         order_is all told)
 
@@ -178,7 +180,7 @@ module _ (p : Pulling) (states : States) (keeps : Keeps p states) (it : InTurn p
 
     -- it is asked
     module _ (fresh : is_quiet x.id p.quiet ≡ false) where
-      quiet_more : (saves : Bool) (xs : List PlainStream) → AreQuiet p.quiet xs → AreQuiet (with_quiet x.id saves p.quiet) xs
+      quiet_more : (saves : Waits) (xs : List PlainStream) → AreQuiet p.quiet xs → AreQuiet (with_quiet x.id saves p.quiet) xs
       quiet_more saves [] all = All-nil (λ (y : PlainStream). is_quiet y.id (with_quiet x.id saves p.quiet) ≡ true)
       quiet_more saves (y ∷ ys) all =
           All-cons (λ (z : PlainStream). is_quiet z.id (with_quiet x.id saves p.quiet) ≡ true) y ys
@@ -292,7 +294,7 @@ module _ (k : ℕ) (so : (p : Pulling) (states : States) → Keeps p states → 
     turns = repeated (length p.served.end.streams) one_turn p
 
     abbrev all_tried : Tries
-    all_tried = each_asked (turns_of p.served.end) false p.served
+    all_tried = each_asked (turns_of p.served.end) wait.Nothing p.served
 
     abbrev frame_if : Bool → States × Turn Pulling (Served × Halt)
     frame_if b = after (if b then bind turns (λ turns. Done (turns_came turns)) else Done (Stop (p.served, halt.Full))) states
@@ -300,7 +302,7 @@ module _ (k : ℕ) (so : (p : Pulling) (states : States) → Keeps p states → 
     same_tries : SameTries (after turns states) (after all_tried states)
     same_tries =
         subst (λ n. SameTries (after (repeated n one_turn p) states) (after all_tried states)) (all_turns p.served.end.turn p.served.end.streams)
-        (try_them (turns_of p.served.end) [] false p states keeps (sym (append-nil (turns_of p.served.end))) (All-nil (λ (x : PlainStream). is_quiet x.id p.quiet ≡ true)) refl)
+        (try_them (turns_of p.served.end) [] wait.Nothing p states keeps (sym (append-nil (turns_of p.served.end))) (All-nil (λ (x : PlainStream). is_quiet x.id p.quiet ≡ true)) refl)
 
     by_window : (b : Bool) → after (bind (go_on (repeated k one_frame) (frame_if b).1) pulled) (frame_if b).0
         ≡ after (if b then bind all_tried (tried (λ s'. all_asked k s')) else Done (p.served, halt.Full)) states
@@ -334,7 +336,7 @@ none_were name states xs = record { still = still xs; waits = waits xs }
     still [] = All-nil (λ (x : PlainStream). is_quiet x.id none_quiet ≡ true → IsStill name x states)
     still (x ∷ xs) = All-cons (λ (y : PlainStream). is_quiet y.id none_quiet ≡ true → IsStill name y states) x xs (λ is. absurd (cc is)) (still xs)
 
-    waits : (xs : List PlainStream) → false ≡ list_any (waits_now name none_quiet states) xs
+    waits : (xs : List PlainStream) → wait.Nothing ≡ waits_in (waits_now name none_quiet states) xs
     waits [] = refl
     waits (x ∷ xs) = waits xs
 

@@ -15,8 +15,10 @@ use Rattle.vb_events.specs.declared.event.StreamName.{StreamName}
 use Rattle.flow_control.specs.declared.window.Window.{Window}
 use Rattle.dcp_producer.specs.declared.next_frame.NextFrame.{NextFrame}
 use Rattle.dcp_producer.specs.declared.next_frame.NextFrame.TheVariants as next
+use Rattle.dcp_producer.specs.declared.next_frame.Waits.{Waits}
+use Rattle.dcp_producer.specs.declared.next_frame.Waits.TheVariants as waits
 use Rattle.dcp_producer.specs.Producers.{PlainStream}
-use Rattle.dcp_producer.specs.Pulling.{QuietOnes, with_quiet, is_quiet, Pulling}
+use Rattle.dcp_producer.specs.Pulling.{QuietOnes, first_wait, with_quiet, is_quiet, Pulling}
 use Rattle.dcp_producer.specs.Holding.{Passes, PassAll}
 use Rattle.dcp_producer.specs.Turns.{turns_of, Tried, IsTold, standing_by, StandApart, waiting, TakeTurns, NextOrder, TurnsOn}
 use Rattle.dcp_producer.proofs.Turning.{before}
@@ -29,10 +31,44 @@ abbrev pub awake_of : Pulling → List PlainStream
 awake_of p = awake_in p.quiet (turns_of p.served.end)
 
 -- one that was asked was quiet, and waits
-abbrev pub says_wait : NextFrame → Bool
-says_wait (next.Put m line) = false
-says_wait (next.End reason) = false
-says_wait (next.Quiet waits) = waits
+abbrev pub says_wait : NextFrame → Waits
+says_wait (next.Put m line) = waits.Nothing
+says_wait (next.End reason) = waits.Nothing
+says_wait (next.Quiet for) = for
+
+-- what these wait for, as a pull says it
+abbrev pub waits_in : {X : Type 0} → (X → Waits) → List X → Waits
+waits_in f [] = waits.Nothing
+waits_in f (x ∷ xs) = first_wait (f x) (waits_in f xs)
+
+pub wait_none : (a : Waits) → first_wait a waits.Nothing ≡ a
+wait_none waits.Nothing = refl
+wait_none waits.Saved = refl
+wait_none waits.State = refl
+
+pub wait_turned : (a b : Waits) → first_wait a b ≡ first_wait b a
+wait_turned waits.Nothing waits.Nothing = refl
+wait_turned waits.Nothing waits.Saved = refl
+wait_turned waits.Nothing waits.State = refl
+wait_turned waits.Saved waits.Nothing = refl
+wait_turned waits.Saved waits.Saved = refl
+wait_turned waits.Saved waits.State = refl
+wait_turned waits.State waits.Nothing = refl
+wait_turned waits.State waits.Saved = refl
+wait_turned waits.State waits.State = refl
+
+wait_thrice : (a b c : Waits) → first_wait a (first_wait b c) ≡ first_wait (first_wait a b) c
+wait_thrice waits.Nothing b c = refl
+wait_thrice waits.State b c = refl
+wait_thrice waits.Saved waits.Nothing c = refl
+wait_thrice waits.Saved waits.State c = refl
+wait_thrice waits.Saved waits.Saved waits.Nothing = refl
+wait_thrice waits.Saved waits.Saved waits.Saved = refl
+wait_thrice waits.Saved waits.Saved waits.State = refl
+
+pub waits_more : {X : Type 0} (f : X → Waits) (xs : List X) (x : X) → waits_in f (xs ++ x ∷ []) ≡ first_wait (waits_in f xs) (f x)
+waits_more f [] x = wait_none (f x)
+waits_more f (y ∷ xs) x = ap (first_wait (f y)) (waits_more f xs x) ∙ wait_thrice (f y) (waits_in f xs) (f x)
 
 -- ---- the order of turns
 
@@ -52,8 +88,8 @@ asleep_all q (x ∷ xs) all =
     asleep q x xs (All-head (λ (stream : PlainStream). is_quiet stream.id q ≡ true) x xs all) ∙ asleep_all q xs (All-tail (λ (stream : PlainStream). is_quiet stream.id q ≡ true) x xs all)
 
 -- behind one more that is quiet
-pub quiet_more : (q : QuietOnes) (id : ℕ) (waits : Bool) (n : ℕ) → is_quiet n (with_quiet id waits q) ≡ (is_quiet n q || (id == n || false))
-quiet_more q id waits n = list_any-append (λ other. other == n) q.ids (id ∷ [])
+pub quiet_more : (q : QuietOnes) (id : ℕ) (for : Waits) (n : ℕ) → is_quiet n (with_quiet id for q) ≡ (is_quiet n q || (id == n || false))
+quiet_more q id for n = list_any-append (λ other. other == n) q.ids (id ∷ [])
 
 pub or_no : (a b : Bool) → b ≡ false → (a || (b || false)) ≡ a
 or_no true b is = refl
@@ -64,20 +100,20 @@ or_yes true b is = refl
 or_yes false b (inl is) = absurd (false≢true is)
 or_yes false b (inr is) = ap (λ c. c || false) is
 
-pub quiet_then : (q : QuietOnes) (id : ℕ) (waits : Bool) (n : ℕ) → (is_quiet n q ≡ true) ⊎ (id ≡ n) → is_quiet n (with_quiet id waits q) ≡ true
-quiet_then q id waits n (inl before) = quiet_more q id waits n ∙ or_yes (is_quiet n q) (id == n) (inl before)
-quiet_then q id waits n (inr is) = quiet_more q id waits n ∙ or_yes (is_quiet n q) (id == n) (inr (grind (arith, nat_tests)))
+pub quiet_then : (q : QuietOnes) (id : ℕ) (for : Waits) (n : ℕ) → (is_quiet n q ≡ true) ⊎ (id ≡ n) → is_quiet n (with_quiet id for q) ≡ true
+quiet_then q id for n (inl before) = quiet_more q id for n ∙ or_yes (is_quiet n q) (id == n) (inl before)
+quiet_then q id for n (inr is) = quiet_more q id for n ∙ or_yes (is_quiet n q) (id == n) (inr (grind (arith, nat_tests)))
 
-pub quiet_same : (q : QuietOnes) (id : ℕ) (waits : Bool) (n : ℕ) → n ≢ id → is_quiet n (with_quiet id waits q) ≡ is_quiet n q
-quiet_same q id waits n other = quiet_more q id waits n ∙ or_no (is_quiet n q) (id == n) (false_from_ne_true (id == n) (λ t. other (sym (eqb-true id n t))))
+pub quiet_same : (q : QuietOnes) (id : ℕ) (for : Waits) (n : ℕ) → n ≢ id → is_quiet n (with_quiet id for q) ≡ is_quiet n q
+quiet_same q id for n other = quiet_more q id for n ∙ or_no (is_quiet n q) (id == n) (false_from_ne_true (id == n) (λ t. other (sym (eqb-true id n t))))
 
 -- the others wait as before
-pub awake_same : (q : QuietOnes) (id : ℕ) (waits : Bool) (xs : List PlainStream) → All (λ stream. stream.id ≢ id) xs → awake_in (with_quiet id waits q) xs ≡ awake_in q xs
-awake_same q id waits [] differ = refl
-awake_same q id waits (x ∷ xs) differ = λ i.
-    if not (quiet_same q id waits x.id (All-head (λ (stream : PlainStream). stream.id ≢ id) x xs differ) i)
-    then x ∷ awake_same q id waits xs (All-tail (λ (stream : PlainStream). stream.id ≢ id) x xs differ) i
-    else awake_same q id waits xs (All-tail (λ (stream : PlainStream). stream.id ≢ id) x xs differ) i
+pub awake_same : (q : QuietOnes) (id : ℕ) (for : Waits) (xs : List PlainStream) → All (λ stream. stream.id ≢ id) xs → awake_in (with_quiet id for q) xs ≡ awake_in q xs
+awake_same q id for [] differ = refl
+awake_same q id for (x ∷ xs) differ = λ i.
+    if not (quiet_same q id for x.id (All-head (λ (stream : PlainStream). stream.id ≢ id) x xs differ) i)
+    then x ∷ awake_same q id for xs (All-tail (λ (stream : PlainStream). stream.id ≢ id) x xs differ) i
+    else awake_same q id for xs (All-tail (λ (stream : PlainStream). stream.id ≢ id) x xs differ) i
 
 -- one more try
 pub takes_more : (name : StreamName) (first : List PlainStream) (tries : List Tried) (last rest : List PlainStream) (t : Tried) → TakeTurns name first tries last → last ≡ t.stream ∷ rest → IsTold name t

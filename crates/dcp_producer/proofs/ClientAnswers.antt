@@ -64,7 +64,7 @@ module _ (L : List LogEntry → Type 0) (none : L []) where
 
     outcomes : Outcomes (GivesLogs L) (AnswersOnce L f s) f s
     outcomes = record {
-      dropped = λ is. record { told = inl (inl is, (refl, refl)); count = refl; resolved = refl; desk = refl };
+      dropped = λ is streams. record { told = inl (inl is, (refl, refl)); count = refl; resolved = refl; desk = refl };
       taken = λ bytes read opened. record { told = inl (inr (bytes, read, opened), (refl, refl)); count = refl; resolved = refl; desk = refl };
       refused = refused_once;
       asked = λ ask id sync reply own end read may same.

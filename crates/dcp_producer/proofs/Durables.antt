@@ -8,16 +8,19 @@ use Rattle.mcbp_dcp.specs.DurableRows.{no_cas, no_times, prepare_bytes, resoluti
 use Rattle.vb_types.specs.declared.change.Act.{Act}
 use Rattle.vb_types.specs.declared.change.Act.TheVariants as act
 use Rattle.vb_types.specs.declared.change.Change.{Change}
+use Rattle.vb_types.specs.declared.role.Role.{Role}
+use Rattle.vb_types.specs.declared.role.Role.TheVariants as role
+use Rattle.takeover.specs.declared.give_up.GiveUp.{GiveUp}
 use Rattle.vb_types.specs.declared.change.Level.TheVariants as level
 use Rattle.vb_types.specs.declared.doc.Doc.{Doc}
 use Rattle.vb_events.specs.declared.event.Event.TheVariants as event
 use Rattle.vb_types.specs.declared.stream.Snapshot.{Snapshot}
 use Rattle.vb_calls.specs.Programs.{Done, Stop, bind}
-use Rattle.mcbp_dcp.specs.MessageRows.{deletion_bytes, end_bytes, marker_bytes, mutation_bytes, no_four}
+use Rattle.mcbp_dcp.specs.MessageRows.{answer_head, state_bytes, deletion_bytes, end_bytes, marker_bytes, mutation_bytes, no_four}
 use Rattle.dcp_producer.specs.Producers.{Served}
-use Rattle.dcp_producer.specs.Frames.{act_message, act_sent, item_line, marker_flags, next_by, next_frame, past_item}
+use Rattle.dcp_producer.specs.Frames.{state_put, act_message, act_sent, item_line, marker_flags, next_by, next_frame, past_item}
 use Rattle.dcp_producer.specs.Pulling.{came, frame_put, stream_asked, stream_went, pull_of}
-use Rattle.dcp_producer.specs.Items.{Asking, IsNext, EndsBytes, MarksBytes, Puts, PutsDurables, PutsPlain, PutsBytes, durable_row, durable_doc}
+use Rattle.dcp_producer.specs.Items.{Asking, ComesAs, IsNext, EndsBytes, MarksBytes, Puts, PutsDurables, PutsPlain, PutsBytes, durable_row, durable_doc}
 
 module _ (a : Asking) (c : Change) (next : IsNext a.stream c) where
   -- the stream behind its item, with this message
@@ -118,3 +121,20 @@ over_bytes_put = ended 2 _ refl
 pub sent_bytes_put : EndsBytes 0 (end_bytes (0x00 ∷ 0x00 ∷ 0x00 ∷ 0x00 ∷ []))
 unfolding spelling dcp_frame
 sent_bytes_put = ended 0 _ refl
+
+-- ---- the frames of states
+
+stated : (g : GiveUp) (told : Role) (bytes : List ℕ) → spelling (dcp_frame (msg.SetVbucketState told) 0x0a0b0c0d 0x0102) ≡ bytes → ComesAs (λ a. state_put a.served.end.desk.stream a.stream g told) bytes
+stated g told bytes spelled a opaque vb = (
+  _,
+  refl,
+  (λ i. a.served.out ++ spelling (dcp_frame (msg.SetVbucketState told) (opaque i) (vb i))) ∙ ap (λ b. a.served.out ++ b) spelled,
+)
+
+pub state_bytes_put : (g : GiveUp) → ComesAs (λ a. state_put a.served.end.desk.stream a.stream g role.Pending) (state_bytes 0x00 no_cas 3) × ComesAs (λ a. state_put a.served.end.desk.stream a.stream g role.Active) (state_bytes 0x00 no_cas 1)
+unfolding spelling dcp_frame
+state_bytes_put g = (stated g role.Pending _ refl, stated g role.Active _ refl)
+
+pub state_answer_bytes : spelling (dcp_frame (msg.StateAnswer 0) 0x0a0b0c0d 0x0102) ≡ answer_head 0x5b 0x00 0x00 0x00
+unfolding spelling dcp_frame
+state_answer_bytes = refl

@@ -12,7 +12,10 @@ use Rattle.mcbp_dcp.specs.DcpFrames.{dcp_frame}
 use Rattle.vb_types.specs.declared.change.Act.{Act}
 use Rattle.vb_types.specs.declared.change.Act.TheVariants as act
 use Rattle.vb_types.specs.declared.change.Change.{Change}
+use Rattle.vb_types.specs.declared.role.Role.{Role}
 use Rattle.vb_types.specs.declared.stream.Place.TheVariants as place
+use Rattle.takeover.specs.GivingUp.{done}
+use Rattle.takeover.specs.declared.give_up.GiveUp.{GiveUp}
 use Rattle.vb_types.specs.declared.stream.Snapshot.{Snapshot}
 use Rattle.vb_events.specs.declared.event.Event.{Event}
 use Rattle.vb_events.specs.declared.event.Event.TheVariants as event
@@ -36,8 +39,8 @@ use Rattle.dcp_producer.specs.Orders.{IsOut}
 use Rattle.dcp_producer.specs.Pulling.{frames_put}
 use Rattle.dcp_producer.specs.Pulls.{PullsInTurn}
 use Rattle.dcp_producer.specs.Turns.{Tried, IsTold, TakeTurns, StandApart, standing_by, waiting, turns_of, made_in, put_by}
-use Rattle.dcp_producer.proofs.Framing.{Same, FrameCase, an_item, by_role, all_sent, it_waits, no_place, a_marker, nothing, no_take, frame_told, frame_same}
-use Rattle.dcp_producer.proofs.Ends.{said_so, some_within, reaches_so}
+use Rattle.dcp_producer.proofs.Framing.{Same, FrameCase, an_item, by_role, all_sent, it_waits, no_place, a_marker, nothing, all_up, a_state, awaits, no_take, frame_told, frame_same}
+use Rattle.dcp_producer.proofs.Ends.{apart, asks_kind, awaits_at, is_sent, said_so, sent_kind, some_within, state_kind, tells_at, waits_kind}
 use Rattle.dcp_producer.proofs.Pulling.{pulls_in_turn}
 use Rattle.dcp_producer.proofs.Turning.{all_other, all_less}
 use Rattle.dcp_producer.proofs.Walking.{told_always}
@@ -60,6 +63,13 @@ not_marker c (act.Remove cas rev) start end flags is = absurd (cc is)
 not_marker c (act.Prepare level doc deleted) start end flags is = absurd (cc is)
 not_marker c (act.Commit prepared doc deleted) start end flags is = absurd (cc is)
 not_marker c (act.Abort prepared) start end flags is = absurd (cc is)
+
+not_state : (c : Change) (a : Act) (told : Role) → act_message c a ≡ msg.SetVbucketState told → ⊥
+not_state c (act.Set doc) told is = absurd (cc is)
+not_state c (act.Remove cas rev) told is = absurd (cc is)
+not_state c (act.Prepare level doc deleted) told is = absurd (cc is)
+not_state c (act.Commit prepared doc deleted) told is = absurd (cc is)
+not_state c (act.Abort prepared) told is = absurd (cc is)
 
 put_message : DcpMsg → NextFrame → DcpMsg
 put_message m (next.Put n line) = n
@@ -85,6 +95,7 @@ module _ (name : StreamName) (stream : PlainStream) (made : List Made) (x : Next
       item = λ c is. absurd (no_item c is);
       asks = asks;
       marker = λ start end flags line is. no_put (msg.SnapshotMarker start end flags) line none is;
+      state = λ told line is. no_put (msg.SetVbucketState told) line none is;
       still = λ out. same;
     },
     record {
@@ -96,6 +107,23 @@ module _ (name : StreamName) (stream : PlainStream) (made : List Made) (x : Next
   nothing_next : slice_get stream.items stream.next ≡ None → (c : Change) → IsNext stream c → ⊥
   nothing_next put c is = none_is c (sym put ∙ is)
 
+  -- it puts a state
+  tells_so : (g : GiveUp) (told : Role) → x ≡ next.Put (msg.SetVbucketState told) (event.Stated name told) → left ≡ record stream { gives = Some g } → ((c : Change) → IsNext stream c → ⊥)
+      → (AsksOn stream → (more : List (ℕ × VbCall)) × (calls_in made ≡ (stream.vb, call.Place stream.id) ∷ more)) → FollowsSo stream made x left × ReachesSo stream x left
+  tells_so g told comes goes no_item asks = (
+    record {
+      item = λ c is. absurd (no_item c is);
+      asks = asks;
+      marker = λ start end flags line marks. absurd (let e : next.Put (msg.SetVbucketState told) (event.Stated name told) ≡ next.Put (msg.SnapshotMarker start end flags) line = sym comes ∙ marks in cc e);
+      state = λ other line is. goes ∙ (λ i. record stream { gives = (sym (ap (λ (s : PlainStream). s.gives) goes)) i });
+      still = λ out. absurd (subst IsOut comes out);
+    },
+    record {
+      item = λ n m seq sent key puts. absurd (let e : next.Put (msg.SetVbucketState told) (event.Stated name told) ≡ next.Put m (event.Item n seq sent key) = sym comes ∙ puts in cc e);
+      else = λ other. ap (λ (s : PlainStream). s.reached) goes;
+    },
+  )
+
   follows : FrameCase name stream made (x, left) → FollowsSo stream made x left × ReachesSo stream x left
   unfolding is_put
   follows (an_item c there none is) =
@@ -106,6 +134,7 @@ module _ (name : StreamName) (stream : PlainStream) (made : List Made) (x : Next
           item = λ d is_next. (none, goes ∙ (λ i. record stream { next = stream.next + 1; reached = sym reached i }));
           asks = λ on. let within : stream.next < _ = some_within stream.items stream.next c there in let behind = on.behind in absurd (omega (arith, within, behind));
           marker = λ start end flags line marks. absurd (not_marker c c.act start end flags (let e : next.Put (act_message c c.act) (event.Item name c.seq (act_sent c.act) c.key) ≡ next.Put (msg.SnapshotMarker start end flags) line = sym comes ∙ marks in cc e));
+          state = λ told line tells. absurd (not_state c c.act told (let e : next.Put (act_message c c.act) (event.Item name c.seq (act_sent c.act) c.key) ≡ next.Put (msg.SetVbucketState told) line = sym comes ∙ tells in cc e));
           still = λ out. absurd (subst IsOut comes out);
         },
         record {
@@ -119,7 +148,7 @@ module _ (name : StreamName) (stream : PlainStream) (made : List Made) (x : Next
   follows (by_role put ended none is) =
       stays_so (ap (λ (y : Next). is_put y.0) is) (ap (λ (y : Next). y.1) is) (nothing_next put) (λ on. absurd (false≢true (sym on.alive ∙ ended)))
   follows (all_sent put alive reaches reply calls is) =
-      stays_so (ap (λ (y : Next). is_put y.0) is) (ap (λ (y : Next). y.1) is) (nothing_next put) (λ on. absurd (on.below (reaches_so stream.until stream.marked reaches)))
+      stays_so (ap (λ (y : Next). is_put y.0) is) (ap (λ (y : Next). y.1) is) (nothing_next put) (λ on. apart stream 0 1 (asks_kind stream on) (sent_kind stream (is_sent stream reaches)) refl)
   follows (it_waits more reply said calls is) = stays_so (ap (λ (y : Next). is_put y.0) is) (ap (λ (y : Next). y.1) is) (nothing_next more.put) (λ on. ([], ap (λ (ms : List Made). calls_in ms) calls))
   follows (no_place more reply none calls is) = stays_so (ap (λ (y : Next). is_put y.0) is) (ap (λ (y : Next). y.1) is) (nothing_next more.put) (λ on. ([], ap (λ (ms : List Made). calls_in ms) calls))
   follows (a_marker more from reply snapshot placed said calls is) =
@@ -133,6 +162,7 @@ module _ (name : StreamName) (stream : PlainStream) (made : List Made) (x : Next
               let a : snapshot.start ≡ start = cc e in
               let b : snapshot.end ≡ end = cc e in
               (snapshot, reply, (from, said_so from (answer.Placed place.Memory) placed, calls), said_so reply (answer.Taken snapshot) said, sym a, sym b, goes);
+          state = λ told line tells. absurd (let e : next.Put (msg.SnapshotMarker snapshot.start snapshot.end (marker_flags snapshot.disk)) (event.Marked name snapshot.start snapshot.end (marker_flags snapshot.disk)) ≡ next.Put (msg.SetVbucketState told) line = sym comes ∙ tells in cc e);
           still = λ out. absurd (subst IsOut comes out);
         },
         record {
@@ -141,7 +171,14 @@ module _ (name : StreamName) (stream : PlainStream) (made : List Made) (x : Next
           else = λ other. ap (λ (s : PlainStream). s.reached) goes;
         },
       )
-  follows (nothing more from reply placed said calls is) =
+  follows (all_up more g gives told tells from reply placed said calls is) =
+      tells_so (done (done g)) told (ap (λ (y : Next). y.0) is) (ap (λ (y : Next). y.1) is) (nothing_next more.put) (λ on. ((stream.vb, call.Take stream.id) ∷ [], ap (λ (ms : List Made). calls_in ms) calls))
+  follows (a_state put alive g gives told tells none is) =
+      tells_so (done g) told (ap (λ (y : Next). y.0) is) (ap (λ (y : Next). y.1) is) (nothing_next put)
+      (λ on. apart stream 0 2 (asks_kind stream on) (state_kind stream (tells_at stream g gives g.step refl told tells)) refl)
+  follows (awaits put alive g gives waits none is) =
+      stays_so (ap (λ (y : Next). is_put y.0) is) (ap (λ (y : Next). y.1) is) (nothing_next put) (λ on. apart stream 0 3 (asks_kind stream on) (waits_kind stream (awaits_at stream g gives g.step refl waits)) refl)
+  follows (nothing more gives from reply placed said calls is) =
       stays_so (ap (λ (y : Next). is_put y.0) is) (ap (λ (y : Next). y.1) is) (nothing_next more.put) (λ on. ((stream.vb, call.Take stream.id) ∷ [], ap (λ (ms : List Made). calls_in ms) calls))
   follows (no_take more from reply placed not_taken none calls is) =
       stays_so (ap (λ (y : Next). is_put y.0) is) (ap (λ (y : Next). y.1) is) (nothing_next more.put) (λ on. ((stream.vb, call.Take stream.id) ∷ [], ap (λ (ms : List Made). calls_in ms) calls))
@@ -174,6 +211,10 @@ module _ (name : StreamName) (stream : PlainStream) where
   unfolding dcp_frame
   marker_line_of snapshot = ((refl, refl), refl, refl)
 
+  state_line_of : (told : Role) → IsOfStream name stream (dcp_frame (msg.SetVbucketState told) stream.opaque stream.vb, event.Stated name told)
+  unfolding dcp_frame
+  state_line_of told = ((refl, refl), refl, refl)
+
   abbrev Lines : Next → Type 0
   Lines (x, left) = All (IsOfStream name stream) (put_by name x left)
 
@@ -184,7 +225,10 @@ module _ (name : StreamName) (stream : PlainStream) where
   lines made y (it_waits more reply said calls is) = subst Lines (sym is) (All-nil (IsOfStream name stream))
   lines made y (no_place more reply none calls is) = subst Lines (sym is) (end_line_of 2)
   lines made y (a_marker more from reply snapshot placed said calls is) = subst Lines (sym is) (one_line _ (marker_line_of snapshot))
-  lines made y (nothing more from reply placed said calls is) = subst Lines (sym is) (All-nil (IsOfStream name stream))
+  lines made y (all_up more g gives told tells from reply placed said calls is) = subst Lines (sym is) (one_line _ (state_line_of told))
+  lines made y (a_state put alive g gives told tells none is) = subst Lines (sym is) (one_line _ (state_line_of told))
+  lines made y (awaits put alive g gives waits none is) = subst Lines (sym is) (All-nil (IsOfStream name stream))
+  lines made y (nothing more gives from reply placed said calls is) = subst Lines (sym is) (All-nil (IsOfStream name stream))
   lines made y (no_take more from reply placed not_taken none calls is) = subst Lines (sym is) (end_line_of 2)
 
 told_each : (name : StreamName) (awake : List PlainStream) (tries : List Tried) (left : List PlainStream) → TakeTurns name awake tries left → All (IsTold name) tries
@@ -214,7 +258,10 @@ ended_asks name stream left made x ended told = by (frame_told name stream made 
     by (it_waits more reply said calls is) = absurd (false≢true (sym more.alive ∙ ended))
     by (no_place more reply none calls is) = absurd (false≢true (sym more.alive ∙ ended))
     by (a_marker more from reply snapshot placed said calls is) = absurd (false≢true (sym more.alive ∙ ended))
-    by (nothing more from reply placed said calls is) = absurd (false≢true (sym more.alive ∙ ended))
+    by (all_up more g gives told tells from reply placed said calls is) = absurd (false≢true (sym more.alive ∙ ended))
+    by (a_state put alive g gives told tells none is) = none
+    by (awaits put alive g gives waits none is) = none
+    by (nothing more gives from reply placed said calls is) = absurd (false≢true (sym more.alive ∙ ended))
     by (no_take more from reply placed not_taken none calls is) = absurd (false≢true (sym more.alive ∙ ended))
 
 abbrev IsOver : PlainStream → Type 0

@@ -8,6 +8,9 @@ use Rattle.std.proofs.lemmas.List.Elements.{All-nil, All-cons, All-head, All-tai
 use Rattle.flow_control.specs.Rings.{PlainRing, IsRing, without, closed, opened}
 use Rattle.dcp_producer.specs.Producers.{PlainStream, PlainProducer, replaced, with_opened, without_place, without_id, without_stream, Rising, IsKept}
 use Rattle.dcp_producer.specs.Ending.{ended_in}
+use Rattle.dcp_producer.specs.Serving.{heard}
+use Rattle.std.specs.Option.{option_map}
+use Rattle.takeover.specs.GivingUp.{answered}
 
 abbrev pub ids_of : List PlainStream → List ℕ
 ids_of streams = map (λ stream. stream.id) streams
@@ -219,3 +222,15 @@ dropped_back end ring id stream is next turn kept =
     let turn' : (closed id (record { ids = ids_of (end.streams ++ stream ∷ []); turn = end.turn })).turn ≡ end.turn =
     ap (λ o. (without o (record { ids = ids_of (end.streams ++ stream ∷ []); turn = end.turn })).turn) ringed ∙ ap (λ b. if b then end.turn - 1 else end.turn) stays in
     λ i. record end { asked = end.asked + 1; streams = streams i; turn = turn' i }
+
+-- an answer gives no stream another number
+heard_id : (opaque : ℕ) (s : PlainStream) (b : Bool) → (if b then record s { gives = option_map answered s.gives } else s).id ≡ s.id
+heard_id opaque s true = refl
+heard_id opaque s false = refl
+
+pub heard_ids : (opaque : ℕ) (streams : List PlainStream) → ids_of (map (heard opaque) streams) ≡ ids_of streams
+heard_ids opaque [] = refl
+heard_ids opaque (s ∷ more) = λ i. heard_id opaque s (s.opaque == opaque) i ∷ heard_ids opaque more i
+
+pub kept_heard : (base asked opaque : ℕ) (streams : List PlainStream) (ring : PlainRing) → IsKept base asked streams ring → IsKept base asked (map (heard opaque) streams) ring
+kept_heard base asked opaque streams ring kept = kept_same base asked streams (map (heard opaque) streams) ring (heard_ids opaque streams) kept

@@ -41,3 +41,6 @@ pub mod Telling
 pub mod PullLines
 pub mod Desks
 pub mod Replying
+mod Persisting
+mod Giving
+mod Takeovers

@@ -12,7 +12,7 @@ use Rattle.dcp_producer.specs.Frames.{Next, next_frame}
 use Rattle.dcp_producer.specs.Producers.{PlainStream, PlainProducer, Rising}
 use Rattle.dcp_producer.specs.Turns.{Tried, IsTold, TakeTurns, turns_of, waiting, made_in}
 use Rattle.dcp_producer.specs.Orders.{IsPut, IsOut, IsNotAsked, AreDifferent, AreBetween, AreOut, most_calls, AskLittle}
-use Rattle.dcp_producer.proofs.Framing.{Same, GoesOn, FrameCase, an_item, by_role, all_sent, it_waits, no_place, a_marker, nothing, no_take, frame_same, frame_told}
+use Rattle.dcp_producer.proofs.Framing.{Same, GoesOn, FrameCase, an_item, by_role, all_sent, it_waits, no_place, a_marker, nothing, all_up, a_state, awaits, no_take, frame_same, frame_told}
 use Rattle.dcp_producer.proofs.Turning.{take_drop}
 use Rattle.dcp_producer.proofs.Walking.{told_always}
 
@@ -30,8 +30,12 @@ few_calls name t (no_place more reply said calls is) =
     (subst (λ (x : NextFrame). 1 ≤ most_calls t.stream.ended x) (sym (ap (λ (x : Next). x.0) is)) (subst (λ b. 1 ≤ (if b then 0 else 2)) (sym more.alive) (omega arith)))
 few_calls name t (a_marker more from reply snapshot said tells calls is) =
     subst (λ ms. length ms ≤ most_calls t.stream.ended t.next) (sym calls) (subst (λ (x : NextFrame). 2 ≤ most_calls t.stream.ended x) (sym (ap (λ (x : Next). x.0) is)) (omega arith))
-few_calls name t (nothing more from reply said tells calls is) =
+few_calls name t (nothing more none from reply said tells calls is) =
     subst (λ ms. length ms ≤ most_calls t.stream.ended t.next) (sym calls) (subst (λ (x : NextFrame). 2 ≤ most_calls t.stream.ended x) (sym (ap (λ (x : Next). x.0) is)) (omega arith))
+few_calls name t (all_up more g gives told at from reply said tells calls is) =
+    subst (λ ms. length ms ≤ most_calls t.stream.ended t.next) (sym calls) (subst (λ (x : NextFrame). 2 ≤ most_calls t.stream.ended x) (sym (ap (λ (x : Next). x.0) is)) (omega arith))
+few_calls name t (a_state put alive g gives told at none is) = subst (λ ms. length ms ≤ most_calls t.stream.ended t.next) (sym none) (omega arith)
+few_calls name t (awaits put alive g gives at none is) = subst (λ ms. length ms ≤ most_calls t.stream.ended t.next) (sym none) (omega arith)
 few_calls name t (no_take more from reply said no_snapshot some calls is) =
     subst (λ ms. length ms ≤ most_calls t.stream.ended t.next) (sym calls)
     (subst (λ (x : NextFrame). 2 ≤ most_calls t.stream.ended x) (sym (ap (λ (x : Next). x.0) is)) (subst (λ b. 2 ≤ (if b then 0 else 2)) (sym more.alive) (omega arith)))

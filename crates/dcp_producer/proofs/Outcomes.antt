@@ -2,7 +2,7 @@
 use Rattle.std.proofs.Common.{◌≡◌, ◌≢◌, ℕ, Bool, true, false, List, refl, sym, ◌∙◌, subst, inl, inr, arith, Option, Some, None, Result, Ok, Err}
 use Rattle.std.proofs.lemmas.Bool.{eqb-true, false≢true}
 use Rattle.std.proofs.lemmas.Bool.Decides.{nat_tests}
-use Rattle.std.specs.Prelude.{if◌then◌else◌, ◌==◌, ◌||◌, codes, nat_lt}
+use Rattle.std.specs.Prelude.{if◌then◌else◌, ◌==◌, ◌||◌, codes, map, nat_lt}
 use Rattle.std.specs.Str.{bytes_eq}
 use Rattle.std.specs.List.{list_any}
 use Rattle.mcbp_frame.specs.declared.frame.Frame.{Frame}
@@ -32,7 +32,7 @@ use Rattle.dcp_producer.specs.declared.desk.Handshake.TheVariants as handshake
 use Rattle.dcp_producer.specs.Clients.{IsRead, IsSilent}
 use Rattle.dcp_producer.specs.Having.{IsOpened}
 use Rattle.dcp_producer.specs.Producers.{PlainStream, PlainProducer, Served, is_client, is_open, member_of, stream_at}
-use Rattle.dcp_producer.specs.Serving.{with_frame, status_sent, open_refusal, opened_unless, sized, sized_as, controlled, controlled_as, log_of_reply, high_of_reply, ask_verdict, request_refusal, opens, next_stream, verdict_with, with_asked, with_granted, stream_answered, opening_requested, refusal_requested, stream_request, stream_closed, closed_sent, log_given, log_sent, log_answered, fed_stream, weighed, counted_with, counted_by, count_answered, count_requested, acknowledged, message_answered, row_answered, read_answered, frame_answered}
+use Rattle.dcp_producer.specs.Serving.{with_frame, status_sent, open_refusal, opened_unless, sized, sized_as, controlled, controlled_as, log_of_reply, high_of_reply, ask_verdict, request_refusal, opens, next_stream, verdict_with, with_asked, with_granted, stream_answered, opening_requested, refusal_requested, stream_request, stream_closed, closed_sent, log_given, log_sent, log_answered, fed_stream, weighed, counted_with, counted_by, count_answered, count_requested, acknowledged, message_answered, row_answered, read_answered, frame_answered, heard, is_taken, response_heard}
 use Rattle.dcp_producer.proofs.Finding.{found_back}
 
 -- the calls that are made for a frame, at the vBucket that it names; those of a client's connection are no acknowledgements
@@ -42,9 +42,9 @@ pub record Calls (calls : ℕ → VbCall → Type 0) (f : Frame) (name : StreamN
   pub counts : is_client name ≡ false → (member seq : ℕ) → calls f.vb_or_status (call.Ack member seq)
   pub logs : calls f.vb_or_status call.Log
 
--- what holds of the connection in each case: it had no answer, a status, the answer to a request for a stream, a log, or it was counted
+-- what holds of the connection in each case: it had no answer, and behind a response its streams may be further, a status, the answer to a request for a stream, a log, or it was counted
 pub record Outcomes (replies : VbCall → Option VbReply → Type 0) (R : Served → Type 0) (f : Frame) (s : Served) : Type 0 where
-  pub dropped : f.magic ≡ RESPONSE → R s
+  pub dropped : f.magic ≡ RESPONSE → (streams : List PlainStream) → R (record s { end = record s.end { streams = streams } })
   pub taken : (bytes : ℕ) → IsRead f (msg.BufferAcknowledgement bytes) → IsOpened s → R (record s { end = record s.end { window = with_acked bytes s.end.window } })
   pub refused : (IsSilent f s → ⊥) → (st : Status) (end : PlainProducer) → end.desk ≡ s.end.desk → R (status_sent f st (record s { end = end }))
   pub asked : (ask : StreamAsk) (id : ℕ) (sync : Bool) (reply : Option VbReply) (own : Option Status) (end : PlainProducer) → IsRead f (msg.StreamRequest ask) → replies (call.OpenStream id ask sync) reply
@@ -253,10 +253,14 @@ module _ (replies : VbCall → Option VbReply → Type 0) (calls : ℕ → VbCal
     unknown_so : list_any (λ o. o == f.opcode) dcp_opcodes ≡ false → R (status_sent f status.UnknownCommand s)
     unknown_so unknown = status_so (loud_other f s asks (λ bytes read opened. false≢true (sym unknown ∙ read.0.1))) status.UnknownCommand
 
+  response_so : f.magic ≡ RESPONSE → (b : Bool) → R (if b then record s { end = record s.end { streams = map (heard f.opaque) s.end.streams } } else s)
+  response_so is true = outcomes.dropped is (map (heard f.opaque) s.end.streams)
+  response_so is false = outcomes.dropped is s.end.streams
+
   pub frame_comes : Serves (frame_answered f s)
   unfolding frame_answered
   frame_comes =
-      either_serves (f.magic == RESPONSE) (Done s) (if list_any (λ o. o == f.opcode) dcp_opcodes then read_answered f (read_of f) s else Done (status_sent f status.UnknownCommand s))
-      (λ is. outcomes.dropped (eqb-true f.magic RESPONSE is))
+      either_serves (f.magic == RESPONSE) (Done (response_heard f s)) (if list_any (λ o. o == f.opcode) dcp_opcodes then read_answered f (read_of f) s else Done (status_sent f status.UnknownCommand s))
+      (λ is. response_so (eqb-true f.magic RESPONSE is) (is_taken f))
       (λ asks. either_serves (list_any (λ o. o == f.opcode) dcp_opcodes) (read_answered f (read_of f) s) (Done (status_sent f status.UnknownCommand s))
       (λ known. read_so asks known (read_of f) refl) (unknown_so asks))

@@ -81,7 +81,8 @@ module _ (replies : VbCall → Option VbReply → Type 0) (calls : ℕ → VbCal
   pairs_told = record {
     items = λ name stream c is g. inl (stream, g, c, is, refl, refl);
     markers = λ name stream reply snapshot may is g. inr (inl (stream, g, snapshot.start, snapshot.end, marker_flags snapshot.disk, refl, refl));
-    ends = λ name stream reason g. inr (inr (stream, g, reason, refl, refl));
+    ends = λ name stream reason g. inr (inr (inl (stream, g, reason, refl, refl)));
+    states = λ name stream told one g. inr (inr (inr (stream, g, told, one, refl, refl)));
   }
 
   module _ (k : ℕ) (s : Served) (all : All G s.end.streams) where
@@ -124,6 +125,7 @@ module _ (replies : VbCall → Option VbReply → Type 0) (I : Change → Type 0
     closes = λ stream g. tt;
     passed = λ stream c is g. record { known = g.known; one = g.one; id = g.id; vb = g.vb; opaque = g.opaque; items = g.items };
     marked = λ stream reply snapshot may is g. record { known = g.known; one = g.one; id = g.id; vb = g.vb; opaque = g.opaque; items = gives stream.id reply snapshot may is };
+    given = λ stream o g. record { known = g.known; one = g.one; id = g.id; vb = g.vb; opaque = g.opaque; items = g.items };
   }
 
   all_known : (xs : List PlainStream) → All (λ stream. All I stream.items) xs → All (Contains s.end.streams) xs → All One xs
@@ -165,7 +167,8 @@ module _ (G : PlainStream → Type 0) (good : SpelledStream G) (name : StreamNam
   pair_short (f, line) (inl (stream, g, c, is, frame, told)) =
       subst IsShort (sym frame) (spelled_short _ stream.opaque stream.vb (item_of IsSpelledChange stream.items stream.next c is (good.items stream g)))
   pair_short (f, line) (inr (inl (stream, g, start, end, flags, frame, told))) = subst IsShort (sym frame) (spelled_short (msg.SnapshotMarker start end flags) stream.opaque stream.vb tt)
-  pair_short (f, line) (inr (inr (stream, g, reason, frame, told))) = subst IsShort (sym frame) (spelled_short (msg.StreamEnd reason) stream.opaque stream.vb tt)
+  pair_short (f, line) (inr (inr (inl (stream, g, reason, frame, told)))) = subst IsShort (sym frame) (spelled_short (msg.StreamEnd reason) stream.opaque stream.vb tt)
+  pair_short (f, line) (inr (inr (inr (stream, g, told, one, frame, said)))) = subst IsShort (sym frame) (spelled_short (msg.SetVbucketState told) stream.opaque stream.vb tt)
 
   pub pairs_short : (pairs : List (Frame × Event)) → All (IsPair G name) pairs → All IsShort (map frame_of pairs)
   pairs_short [] all = All-nil IsShort

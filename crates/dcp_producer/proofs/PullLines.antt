@@ -4,6 +4,7 @@ use Rattle.std.specs.List.{All}
 use Rattle.std.proofs.lemmas.List.Elements.{All-cons, All-nil}
 use Rattle.mcbp_frame.specs.declared.frame.Frame.{Frame}
 use Rattle.vb_types.specs.declared.change.Change.{Change}
+use Rattle.vb_types.specs.declared.role.Role.{Role}
 use Rattle.vb_events.specs.declared.event.Event.{Event}
 use Rattle.vb_events.specs.declared.event.Event.TheVariants as event
 use Rattle.vb_events.specs.declared.event.StreamName.{StreamName}
@@ -29,6 +30,7 @@ pub record Lines (L : StreamName → Event → Type 0) : Type 0 where
   pub items : (name : StreamName) (c : Change) → L name (item_line name c)
   pub markers : (name : StreamName) (start end flags : ℕ) → L name (event.Marked name start end flags)
   pub ends : (name : StreamName) (reason : ℕ) → L name (event.Finished name reason)
+  pub states : (name : StreamName) (told : Role) → L name (event.Stated name told)
 
 abbrev AnyStream : PlainStream → Type 0
 AnyStream stream = Unit {0}
@@ -48,6 +50,7 @@ module _ (kind : VbCall → Type 0) (L : StreamName → Event → Type 0) (takes
     closes = λ stream any. takes.closes stream.id;
     passed = λ stream c is any. tt;
     marked = λ stream reply snapshot may is any. tt;
+    given = λ stream gives any. tt;
   }
 
   lines_all : LinesOf AnyReply AnyStream Line
@@ -55,6 +58,7 @@ module _ (kind : VbCall → Type 0) (L : StreamName → Event → Type 0) (takes
     items = λ name stream c is any. lines.items name c;
     markers = λ name stream reply snapshot may is any. lines.markers name snapshot.start snapshot.end (marker_flags snapshot.disk);
     ends = λ name stream reason any. lines.ends name reason;
+    states = λ name stream told one any. lines.states name told;
   }
 
   -- what holds of a connection after so many frames, and whatever its streams are

@@ -1,8 +1,7 @@
 -- what a pull puts, and why it puts no more
-use Rattle.std.proofs.Common.{append-nil, ◌≡◌, ◌↔◌, ◌⊎◌, ◌+◌, ◌<◌, ◌≤◌, ℕ, zero, suc, Bool, true, false, List, [], ◌∷◌, ◌++◌, length, map, refl, sym, ap, ◌∙◌, subst, inl, inr, arith}
-use Rattle.std.specs.Prelude.{if◌then◌else◌, ◌||◌, take, drop}
-use Rattle.std.specs.List.{concat, list_any}
-use Rattle.std.proofs.lemmas.Bool.{false≢true}
+use Rattle.std.proofs.Common.{append-nil, ◌≡◌, ◌↔◌, ◌⊎◌, ◌+◌, ◌<◌, ◌≤◌, ℕ, zero, suc, true, false, List, [], ◌∷◌, ◌++◌, length, map, refl, sym, ap, ◌∙◌, subst, inl, inr, arith}
+use Rattle.std.specs.Prelude.{take, drop}
+use Rattle.std.specs.List.{concat}
 use Rattle.std.proofs.lemmas.Bool.Decides.{nat_tests}
 use Rattle.std.proofs.lemmas.List.{length-append}
 use Rattle.mcbp_frame.specs.declared.frame.Frame.{Frame}
@@ -16,16 +15,19 @@ use Rattle.dcp_producer.specs.declared.halt.Halt.{Halt}
 use Rattle.dcp_producer.specs.declared.halt.Halt.TheVariants as halt
 use Rattle.dcp_producer.specs.declared.next_frame.NextFrame.{NextFrame}
 use Rattle.dcp_producer.specs.declared.next_frame.NextFrame.TheVariants as next
+use Rattle.dcp_producer.specs.declared.next_frame.Waits.{Waits}
+use Rattle.dcp_producer.specs.declared.next_frame.Waits.TheVariants as wait
 use Rattle.dcp_producer.specs.Producers.{PlainStream, Served}
-use Rattle.dcp_producer.specs.Pulling.{none_quiet, quiet_halt, Pulling, pull_of, one_frame, pulled, frames_put, why_of}
+use Rattle.dcp_producer.specs.Pulling.{first_wait, halt_of, none_quiet, quiet_halt, Pulling, pull_of, one_frame, pulled, frames_put, why_of}
 use Rattle.dcp_producer.specs.Holding.{IsShut, HoldsBack, PullHoldsBack}
 use Rattle.dcp_producer.specs.Having.{IsSound}
 use Rattle.dcp_producer.specs.Turns.{turns_of, Tried, put_in, TurnsOn}
 use Rattle.dcp_producer.specs.Pulls.{AsksLittle, OneWaits, PullsInTurn, TurnsTaken}
 use Rattle.dcp_producer.specs.Orders.{most_calls, total}
+use Rattle.dcp_producer.specs.Takeovers.{WaitsInOrder}
 use Rattle.dcp_producer.proofs.Orders.{are_between, are_out, ask_little, turns_differ}
 use Rattle.dcp_producer.proofs.OneStream.{shut_frame_of}
-use Rattle.dcp_producer.proofs.Awake.{says_wait, awake_in, asleep_all}
+use Rattle.dcp_producer.proofs.Awake.{says_wait, awake_in, asleep_all, waits_in}
 use Rattle.dcp_producer.proofs.Story.{Story, Turns, Whole, pulls}
 use Rattle.dcp_producer.proofs.Turning.{take_drop}
 use Rattle.dcp_producer.proofs.Walking.{Ends, ends_all, ends_full, ends_quiet, always_told}
@@ -33,31 +35,40 @@ use Rattle.dcp_producer.proofs.Walking.{Ends, ends_all, ends_full, ends_quiet, a
 not_shut : (w : Window) → is_open w ≡ true → IsShut w → ⊥
 not_shut w free (some, full) = grind (arith, nat_tests)
 
-shut : (w : Window) → is_open w ≡ false → IsShut w
+pub shut : (w : Window) → is_open w ≡ false → IsShut w
 shut w is = (grind (arith, nat_tests), grind (arith, nat_tests))
 
-shut_not_open : (w : Window) → IsShut w → is_open w ≡ false
+pub shut_not_open : (w : Window) → IsShut w → is_open w ≡ false
 shut_not_open w (some, full) = grind (arith, nat_tests)
 
--- one waits exactly where the test says so
-waits_test : (tries : List Tried) → list_any (λ t. says_wait t.next) tries ≡ true → OneWaits tries
-waits_test [] is = absurd (false≢true is)
-waits_test (t ∷ more) is = by t.next refl is (waits_test more)
-  where
-    by : (x : NextFrame) → t.next ≡ x → (says_wait x || list_any (λ (u : Tried). says_wait u.next) more) ≡ true → (list_any (λ (u : Tried). says_wait u.next) more ≡ true → OneWaits more) → OneWaits (t ∷ more)
-    by (next.Put m line) there is rest = inr (rest is)
-    by (next.End reason) there is rest = inr (rest is)
-    by (next.Quiet true) there is rest = inl there
-    by (next.Quiet false) there is rest = inr (rest is)
+-- what the streams that were asked wait for, as a pull says it: the answer to a state where one said so, and else what is to be saved
+abbrev WaitsAs : Waits → List Tried → Type 0
+WaitsAs wait.State tries = OneWaits wait.State tries
+WaitsAs wait.Saved tries = (OneWaits wait.State tries → ⊥) × OneWaits wait.Saved tries
+WaitsAs wait.Nothing tries = (OneWaits wait.State tries → ⊥) × (OneWaits wait.Saved tries → ⊥)
 
-test_waits : (tries : List Tried) → OneWaits tries → list_any (λ t. says_wait t.next) tries ≡ true
-test_waits [] one = absurd one
-test_waits (t ∷ more) (inl is) = ap (λ x. says_wait x || list_any (λ (u : Tried). says_wait u.next) more) is
-test_waits (t ∷ more) (inr rest) = or_true (says_wait t.next) (list_any (λ (u : Tried). says_wait u.next) more) (test_waits more rest)
-  where
-    or_true : (a b : Bool) → b ≡ true → (a || b) ≡ true
-    or_true true b is = refl
-    or_true false b is = is
+either_no : {A B : Type 0} → (A → ⊥) → (B → ⊥) → A ⊎ B → ⊥
+either_no never none (inl a) = never a
+either_no never none (inr b) = none b
+
+-- one that waits for neither leaves it so
+other_waits : (t : Tried) (more : List Tried) → (t.next ≡ next.Quiet wait.State → ⊥) → (t.next ≡ next.Quiet wait.Saved → ⊥) → (w : Waits) → WaitsAs w more → WaitsAs w (t ∷ more)
+other_waits t more no_state no_saved wait.State so = inr so
+other_waits t more no_state no_saved wait.Saved so = (either_no no_state so.0, inr so.1)
+other_waits t more no_state no_saved wait.Nothing so = (either_no no_state so.0, either_no no_saved so.1)
+
+one_waits : (t : Tried) (more : List Tried) (x : NextFrame) → t.next ≡ x → (w : Waits) → WaitsAs w more → WaitsAs (first_wait (says_wait x) w) (t ∷ more)
+one_waits t more (next.Put m line) there w so = other_waits t more (λ is. let e : next.Put m line ≡ next.Quiet wait.State = sym there ∙ is in absurd (cc e)) (λ is. let e : next.Put m line ≡ next.Quiet wait.Saved = sym there ∙ is in absurd (cc e)) w so
+one_waits t more (next.End reason) there w so = other_waits t more (λ is. let e : next.End reason ≡ next.Quiet wait.State = sym there ∙ is in absurd (cc e)) (λ is. let e : next.End reason ≡ next.Quiet wait.Saved = sym there ∙ is in absurd (cc e)) w so
+one_waits t more (next.Quiet wait.Nothing) there w so = other_waits t more (λ is. let e : next.Quiet wait.Nothing ≡ next.Quiet wait.State = sym there ∙ is in absurd (cc e)) (λ is. let e : next.Quiet wait.Nothing ≡ next.Quiet wait.Saved = sym there ∙ is in absurd (cc e)) w so
+one_waits t more (next.Quiet wait.State) there w so = inl there
+one_waits t more (next.Quiet wait.Saved) there wait.State so = inr so
+one_waits t more (next.Quiet wait.Saved) there wait.Saved so = (either_no (λ is. let e : next.Quiet wait.Saved ≡ next.Quiet wait.State = sym there ∙ is in absurd (cc e)) so.0, inl there)
+one_waits t more (next.Quiet wait.Saved) there wait.Nothing so = (either_no (λ is. let e : next.Quiet wait.Saved ≡ next.Quiet wait.State = sym there ∙ is in absurd (cc e)) so.0, inl there)
+
+waits_as : (tries : List Tried) → WaitsAs (waits_in (λ t. says_wait t.next) tries) tries
+waits_as [] = (λ one. one, λ one. one)
+waits_as (t ∷ more) = one_waits t more t.next refl (waits_in (λ (u : Tried). says_wait u.next) more) (waits_as more)
 
 pub all_turns : (n : ℕ) (xs : List PlainStream) → length (drop n xs ++ take n xs) ≡ length xs
 all_turns n xs =
@@ -94,11 +105,12 @@ module _ (s : Served) where
   tells : (k n : ℕ) (made : List Made) (p : Pulling) (halted : Halt) (base : List PlainStream) (b : Story s base n made p) → base ≡ turns_of p.served.end → n ≤ k
       → (halted ≡ halt.All) ↔ (n ≡ k)
       → (halted ≡ halt.Full) ↔ ((n < k) × IsShut p.served.end.window)
-      → (halted ≡ halt.WaitSaved) ↔ ((n < k) × (IsShut p.served.end.window → ⊥) × OneWaits b.tries)
-      → (halted ≡ halt.Idle) ↔ ((n < k) × (IsShut p.served.end.window → ⊥) × (OneWaits b.tries → ⊥))
-      → ((halted ≡ halt.WaitSaved) ⊎ (halted ≡ halt.Idle) → awake_in p.quiet (turns_of p.served.end) ≡ [])
+      → (halted ≡ halt.WaitState) ↔ ((n < k) × (IsShut p.served.end.window → ⊥) × OneWaits wait.State b.tries)
+      → (halted ≡ halt.WaitSaved) ↔ ((n < k) × (IsShut p.served.end.window → ⊥) × (OneWaits wait.State b.tries → ⊥) × OneWaits wait.Saved b.tries)
+      → (halted ≡ halt.Idle) ↔ ((n < k) × (IsShut p.served.end.window → ⊥) × (OneWaits wait.State b.tries → ⊥) × (OneWaits wait.Saved b.tries → ⊥))
+      → ((halted ≡ halt.WaitState) ⊎ (halted ≡ halt.WaitSaved) ⊎ (halted ≡ halt.Idle) → awake_in p.quiet (turns_of p.served.end) ≡ [])
       → PullsInTurn k s made p.served halted
-  tells k n made p halted base b whole few all full waits idle quiet =
+  tells k n made p halted base b whole few all full states saves idle quiet =
       let many = sym b.many in
       record {
         tries = b.tries;
@@ -115,8 +127,9 @@ module _ (s : Served) where
         rest = λ i. record { desk = b.desk i; handshake = b.shaken i; asked = b.asked i; streams = p.served.end.streams; turn = p.served.end.turn; window = p.served.end.window };
         all = subst (λ m. (halted ≡ halt.All) ↔ (m ≡ k)) many all;
         full = subst (λ m. (halted ≡ halt.Full) ↔ ((m < k) × IsShut p.served.end.window)) many full;
-        waits = subst (λ m. (halted ≡ halt.WaitSaved) ↔ ((m < k) × (IsShut p.served.end.window → ⊥) × OneWaits b.tries)) many waits;
-        idle = subst (λ m. (halted ≡ halt.Idle) ↔ ((m < k) × (IsShut p.served.end.window → ⊥) × (OneWaits b.tries → ⊥))) many idle;
+        states = subst (λ m. (halted ≡ halt.WaitState) ↔ ((m < k) × (IsShut p.served.end.window → ⊥) × OneWaits wait.State b.tries)) many states;
+        saves = subst (λ m. (halted ≡ halt.WaitSaved) ↔ ((m < k) × (IsShut p.served.end.window → ⊥) × (OneWaits wait.State b.tries → ⊥) × OneWaits wait.Saved b.tries)) many saves;
+        idle = subst (λ m. (halted ≡ halt.Idle) ↔ ((m < k) × (IsShut p.served.end.window → ⊥) × (OneWaits wait.State b.tries → ⊥) × (OneWaits wait.Saved b.tries → ⊥))) many idle;
         quiet = quiet;
       }
 
@@ -127,11 +140,13 @@ module _ (s : Served) where
       (λ is. absurd (cc is), λ why. let low = why.0 in absurd (omega (arith, low)))
       (λ is. absurd (cc is), λ why. let low = why.0 in absurd (omega (arith, low)))
       (λ is. absurd (cc is), λ why. let low = why.0 in absurd (omega (arith, low)))
+      (λ is. absurd (cc is), λ why. let low = why.0 in absurd (omega (arith, low)))
       neither
     where
-      neither : (halt.All ≡ halt.WaitSaved) ⊎ (halt.All ≡ halt.Idle) → awake_in p.quiet (turns_of p.served.end) ≡ []
+      neither : (halt.All ≡ halt.WaitState) ⊎ (halt.All ≡ halt.WaitSaved) ⊎ (halt.All ≡ halt.Idle) → awake_in p.quiet (turns_of p.served.end) ≡ []
       neither (inl is) = absurd (cc is)
-      neither (inr is) = absurd (cc is)
+      neither (inr (inl is)) = absurd (cc is)
+      neither (inr (inr is)) = absurd (cc is)
 
   in_turn_full : (k n : ℕ) (made : List Made) (p : Pulling) → n < k → is_open p.served.end.window ≡ false → Whole s n made p → PullsInTurn k s made p.served halt.Full
   in_turn_full k n made p below closed b =
@@ -140,27 +155,39 @@ module _ (s : Served) where
       (λ is. (below, shut p.served.end.window closed), λ why. refl)
       (λ is. absurd (cc is), λ why. absurd (why.1 (shut p.served.end.window closed)))
       (λ is. absurd (cc is), λ why. absurd (why.1 (shut p.served.end.window closed)))
+      (λ is. absurd (cc is), λ why. absurd (why.1 (shut p.served.end.window closed)))
       neither
     where
-      neither : (halt.Full ≡ halt.WaitSaved) ⊎ (halt.Full ≡ halt.Idle) → awake_in p.quiet (turns_of p.served.end) ≡ []
+      neither : (halt.Full ≡ halt.WaitState) ⊎ (halt.Full ≡ halt.WaitSaved) ⊎ (halt.Full ≡ halt.Idle) → awake_in p.quiet (turns_of p.served.end) ≡ []
       neither (inl is) = absurd (cc is)
-      neither (inr is) = absurd (cc is)
+      neither (inr (inl is)) = absurd (cc is)
+      neither (inr (inr is)) = absurd (cc is)
 
-  in_turn_quiet : (k n : ℕ) (p0 : Pulling) (made : List Made) (p : Pulling) → n < k → (b : Turns s n p0 (length p0.served.end.streams) made p) → (w : Bool) → p.quiet.waits ≡ w
-      → PullsInTurn k s made p.served (if w then halt.WaitSaved else halt.Idle)
-  in_turn_quiet k n p0 made p below b true is =
+  in_turn_quiet : (k n : ℕ) (p0 : Pulling) (made : List Made) (p : Pulling) → n < k → (b : Turns s n p0 (length p0.served.end.streams) made p) → (w : Waits) → WaitsAs w b.story.tries
+      → PullsInTurn k s made p.served (halt_of w)
+  in_turn_quiet k n p0 made p below b wait.State so =
+      tells k n made p halt.WaitState b.base b.story (same_order n p0 made p b) (omega arith)
+      (λ e. absurd (cc e), λ e. absurd (omega (arith, below, e)))
+      (λ e. absurd (cc e), λ why. absurd (not_shut p.served.end.window b.free why.1))
+      (λ e. (below, not_shut p.served.end.window b.free, so), λ why. refl)
+      (λ e. absurd (cc e), λ why. absurd (why.2 so))
+      (λ e. absurd (cc e), λ why. absurd (why.2 so))
+      (λ why. none_awake n p0 made p b)
+  in_turn_quiet k n p0 made p below b wait.Saved so =
       tells k n made p halt.WaitSaved b.base b.story (same_order n p0 made p b) (omega arith)
       (λ e. absurd (cc e), λ e. absurd (omega (arith, below, e)))
       (λ e. absurd (cc e), λ why. absurd (not_shut p.served.end.window b.free why.1))
-      (λ e. (below, not_shut p.served.end.window b.free, waits_test b.story.tries (sym b.story.waits ∙ is)), λ why. refl)
-      (λ e. absurd (cc e), λ why. absurd (why.2 (waits_test b.story.tries (sym b.story.waits ∙ is))))
+      (λ e. absurd (cc e), λ why. absurd (so.0 why.2))
+      (λ e. (below, not_shut p.served.end.window b.free, so.0, so.1), λ why. refl)
+      (λ e. absurd (cc e), λ why. absurd (why.3 so.1))
       (λ why. none_awake n p0 made p b)
-  in_turn_quiet k n p0 made p below b false is =
+  in_turn_quiet k n p0 made p below b wait.Nothing so =
       tells k n made p halt.Idle b.base b.story (same_order n p0 made p b) (omega arith)
       (λ e. absurd (cc e), λ e. absurd (omega (arith, below, e)))
       (λ e. absurd (cc e), λ why. absurd (not_shut p.served.end.window b.free why.1))
-      (λ e. absurd (cc e), λ why. absurd (false≢true (sym is ∙ b.story.waits ∙ test_waits b.story.tries why.2)))
-      (λ e. (below, not_shut p.served.end.window b.free, λ one. false≢true (sym is ∙ b.story.waits ∙ test_waits b.story.tries one)), λ why. refl)
+      (λ e. absurd (cc e), λ why. absurd (so.0 why.2))
+      (λ e. absurd (cc e), λ why. absurd (so.1 why.3))
+      (λ e. (below, not_shut p.served.end.window b.free, so.0, so.1), λ why. refl)
       (λ why. none_awake n p0 made p b)
 
   in_turn_by : (k : ℕ) (made : List Made) (left : Served) (halted : Halt) → Ends (Whole s) (Turns s) k made left halted → PullsInTurn k s made left halted
@@ -168,7 +195,7 @@ module _ (s : Served) where
   in_turn_by k made left halted (ends_full n p below b closed same is) =
       subst (PullsInTurn k s made left) (sym is) (subst (λ l. PullsInTurn k s made l halt.Full) same (in_turn_full k n made p below closed b))
   in_turn_by k made left halted (ends_quiet n p0 p below free b same is) =
-      subst (PullsInTurn k s made left) (sym is) (subst (λ l. PullsInTurn k s made l (quiet_halt p.quiet)) same (in_turn_quiet k n p0 made p below b p.quiet.waits refl))
+      subst (PullsInTurn k s made left) (sym is) (subst (λ l. PullsInTurn k s made l (quiet_halt p.quiet)) same (in_turn_quiet k n p0 made p below b p.quiet.waits (subst (λ w. WaitsAs w b.story.tries) (sym b.story.waits) (waits_as b.story.tries))))
 
   pub pulls_in_turn : (k : ℕ) (made : List Made) (left : Served) (halted : Halt) → IsSound s.end → Told (frames_put k s) made (left, halted) → PullsInTurn k s made left halted
   pulls_in_turn k made left halted sound told = in_turn_by k made left halted (pulls s k made left halted sound told)
@@ -214,9 +241,10 @@ module _ (s : Served) where
         full = subst (λ m. (halted ≡ halt.Full) ↔ ((m < k) × IsShut p.served.end.window)) (sym long) full;
       }
 
-  held_quiet : (k n : ℕ) (p0 : Pulling) (made : List Made) (p : Pulling) → n < k → (b : Turns s n p0 (length p0.served.end.streams) made p) → (w : Bool) → HoldsBack k s p.served (if w then halt.WaitSaved else halt.Idle)
-  held_quiet k n p0 made p below b true = held k n made p halt.WaitSaved b.story (omega arith) (λ e. absurd (cc e), λ why. absurd (not_shut p.served.end.window b.free why.1))
-  held_quiet k n p0 made p below b false = held k n made p halt.Idle b.story (omega arith) (λ e. absurd (cc e), λ why. absurd (not_shut p.served.end.window b.free why.1))
+  held_quiet : (k n : ℕ) (p0 : Pulling) (made : List Made) (p : Pulling) → n < k → (b : Turns s n p0 (length p0.served.end.streams) made p) → (w : Waits) → HoldsBack k s p.served (halt_of w)
+  held_quiet k n p0 made p below b wait.State = held k n made p halt.WaitState b.story (omega arith) (λ e. absurd (cc e), λ why. absurd (not_shut p.served.end.window b.free why.1))
+  held_quiet k n p0 made p below b wait.Saved = held k n made p halt.WaitSaved b.story (omega arith) (λ e. absurd (cc e), λ why. absurd (not_shut p.served.end.window b.free why.1))
+  held_quiet k n p0 made p below b wait.Nothing = held k n made p halt.Idle b.story (omega arith) (λ e. absurd (cc e), λ why. absurd (not_shut p.served.end.window b.free why.1))
 
   held_by : (k : ℕ) (made : List Made) (left : Served) (halted : Halt) → Ends (Whole s) (Turns s) k made left halted → HoldsBack k s left halted
   held_by k made left halted (ends_all p b same is) =
@@ -244,11 +272,52 @@ module _ (s : Served) where
 pub full_line : (h : Halt) → (why_of h ≡ why.Full) ↔ (h ≡ halt.Full)
 full_line halt.All = (λ is. absurd (cc is), λ is. absurd (cc is))
 full_line halt.Idle = (λ is. absurd (cc is), λ is. absurd (cc is))
+full_line halt.WaitState = (λ is. absurd (cc is), λ is. absurd (cc is))
 full_line halt.WaitSaved = (λ is. absurd (cc is), λ is. absurd (cc is))
 full_line halt.Full = (λ is. refl, λ is. refl)
 
 pub saved_line : (h : Halt) → (why_of h ≡ why.WaitSaved) ↔ (h ≡ halt.WaitSaved)
 saved_line halt.All = (λ is. absurd (cc is), λ is. absurd (cc is))
 saved_line halt.Idle = (λ is. absurd (cc is), λ is. absurd (cc is))
+saved_line halt.WaitState = (λ is. absurd (cc is), λ is. absurd (cc is))
 saved_line halt.WaitSaved = (λ is. refl, λ is. refl)
 saved_line halt.Full = (λ is. absurd (cc is), λ is. absurd (cc is))
+
+pub state_line : (h : Halt) → (why_of h ≡ why.WaitState) ↔ (h ≡ halt.WaitState)
+state_line halt.All = (λ is. absurd (cc is), λ is. absurd (cc is))
+state_line halt.Idle = (λ is. absurd (cc is), λ is. absurd (cc is))
+state_line halt.Full = (λ is. absurd (cc is), λ is. absurd (cc is))
+state_line halt.WaitState = (λ is. refl, λ is. refl)
+state_line halt.WaitSaved = (λ is. absurd (cc is), λ is. absurd (cc is))
+
+pub idle_line : (h : Halt) → (why_of h ≡ why.Idle) ↔ (h ≡ halt.Idle)
+idle_line halt.All = (λ is. absurd (cc is), λ is. absurd (cc is))
+idle_line halt.Idle = (λ is. refl, λ is. refl)
+idle_line halt.Full = (λ is. absurd (cc is), λ is. absurd (cc is))
+idle_line halt.WaitState = (λ is. absurd (cc is), λ is. absurd (cc is))
+idle_line halt.WaitSaved = (λ is. absurd (cc is), λ is. absurd (cc is))
+
+pub all_line : (h : Halt) → (why_of h ≡ why.All) ↔ (h ≡ halt.All)
+all_line halt.All = (λ is. refl, λ is. refl)
+all_line halt.Idle = (λ is. absurd (cc is), λ is. absurd (cc is))
+all_line halt.Full = (λ is. absurd (cc is), λ is. absurd (cc is))
+all_line halt.WaitState = (λ is. absurd (cc is), λ is. absurd (cc is))
+all_line halt.WaitSaved = (λ is. absurd (cc is), λ is. absurd (cc is))
+
+-- by the word of the line
+both_ways : {A B C : Type 0} → A ↔ B → B ↔ C → A ↔ C
+both_ways (f, g) (h, k) = (λ a. h (f a), λ c. g (k c))
+
+pub why_in_order : (s : Served) (k : ℕ) (made : List Made) (left : Served) (halted : Halt) → IsSound s.end → Told (frames_put k s) made (left, halted) → WaitsInOrder k s made left halted
+why_in_order s k made left halted sound told =
+    let pull = pulls_in_turn s k made left halted sound told in
+    record {
+      pull = pull;
+      put = length (put_in s.end.desk.stream pull.tries);
+      many = refl;
+      all = both_ways (all_line halted) pull.all;
+      full = both_ways (full_line halted) pull.full;
+      states = both_ways (state_line halted) pull.states;
+      saves = both_ways (saved_line halted) pull.saves;
+      idle = both_ways (idle_line halted) pull.idle;
+    }

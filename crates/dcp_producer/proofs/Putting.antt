@@ -1,5 +1,5 @@
 -- what a connection comes to as it puts the frames of its streams in turn, and which calls it makes, by what vBuckets may reply
-use Rattle.std.proofs.Common.{◌≡◌, ◌<◌, ℕ, zero, suc, Bool, true, false, List, [], ◌∷◌, length, take, drop, refl, subst, arith, Option, Some, None}
+use Rattle.std.proofs.Common.{◌≡◌, ◌⊎◌, inl, inr, ◌<◌, ℕ, zero, suc, Bool, true, false, List, [], ◌∷◌, length, take, drop, refl, subst, arith, Option, Some, None}
 use Rattle.std.specs.Prelude.{◌==◌, if◌then◌else◌, slice_get}
 use Rattle.std.specs.List.{All, find, position}
 use Rattle.std.proofs.lemmas.List.Elements.{All-append, All-drop, All-head, All-map, All-tail, All-take, All-weaker}
@@ -10,6 +10,12 @@ use Rattle.vb_types.specs.declared.change.Change.{Change}
 use Rattle.vb_types.specs.declared.stream.Place.{Place}
 use Rattle.vb_types.specs.declared.stream.Place.TheVariants as place
 use Rattle.vb_types.specs.declared.stream.Snapshot.{Snapshot}
+use Rattle.vb_types.specs.declared.role.Role.{Role}
+use Rattle.vb_types.specs.declared.role.Role.TheVariants as role
+use Rattle.takeover.specs.GivingUp.{done}
+use Rattle.takeover.specs.declared.give_up.GiveStep.{GiveStep}
+use Rattle.takeover.specs.declared.give_up.GiveStep.TheVariants as step
+use Rattle.takeover.specs.declared.give_up.GiveUp.{GiveUp}
 use Rattle.vb_events.specs.declared.event.Event.{Event}
 use Rattle.vb_events.specs.declared.event.Event.TheVariants as event
 use Rattle.vb_events.specs.declared.event.StreamName.{StreamName}
@@ -24,10 +30,12 @@ use Rattle.flow_control.specs.Windows.{is_open}
 use Rattle.dcp_producer.specs.declared.halt.Halt.{Halt}
 use Rattle.dcp_producer.specs.declared.halt.Halt.TheVariants as halt
 use Rattle.dcp_producer.specs.declared.next_frame.NextFrame.TheVariants as next
-use Rattle.dcp_producer.specs.Frames.{Next, STATE_CHANGED, act_message, close_sent, item_line, marker_flags, next_by, next_frame, over, past_item, place_requested, place_said, placed_next, reaches_end, take_answered, taken_next, with_snapshot}
+use Rattle.dcp_producer.specs.declared.next_frame.Waits.{Waits}
+use Rattle.dcp_producer.specs.declared.next_frame.Waits.TheVariants as wait
+use Rattle.dcp_producer.specs.Frames.{Next, STATE_CHANGED, alive_next, none_next, role_of, state_next, step_next, act_message, close_sent, item_line, marker_flags, next_by, next_frame, over, past_item, place_requested, place_said, placed_next, reaches_end, take_answered, taken_next, with_snapshot}
 use Rattle.dcp_producer.specs.Pairs.{PutFew}
 use Rattle.dcp_producer.specs.Producers.{PlainProducer, PlainStream, Served, replaced, with_stream, without_id, without_place, without_stream}
-use Rattle.dcp_producer.specs.Pulling.{Pulling, QuietOnes, came, frame_put, frames_put, is_quiet, none_quiet, one_frame, one_turn, past_turn, pull_of, pulled, quiet_halt, stream_asked, stream_in, stream_in_turn, stream_went, turn_had, turns_came}
+use Rattle.dcp_producer.specs.Pulling.{Pulling, QuietOnes, came, frame_put, frames_put, halt_of, is_quiet, none_quiet, one_frame, one_turn, past_turn, pull_of, pulled, quiet_halt, stream_asked, stream_in, stream_in_turn, stream_went, turn_had, turns_came}
 
 -- the calls that a stream makes for its next frame, and what holds of it as it goes on
 pub record Takes (replies : VbCall → Option VbReply → Type 0) (calls : ℕ → VbCall → Type 0) (G : PlainStream → Type 0) : Type 0 where
@@ -36,12 +44,14 @@ pub record Takes (replies : VbCall → Option VbReply → Type 0) (calls : ℕ �
   pub closes : (stream : PlainStream) → G stream → calls stream.vb (call.CloseStream stream.id)
   pub passed : (stream : PlainStream) (c : Change) → slice_get stream.items stream.next ≡ Some c → G stream → G (past_item c.seq stream)
   pub marked : (stream : PlainStream) (reply : VbReply) (snapshot : Snapshot) → replies (call.Take stream.id) (Some reply) → reply.answer ≡ answer.Taken snapshot → G stream → G (with_snapshot stream snapshot)
+  pub given : (stream : PlainStream) (gives : Option GiveUp) → G stream → G (record stream { gives = gives })
 
 -- so it is with its frames and their lines
 pub record Lines (replies : VbCall → Option VbReply → Type 0) (G : PlainStream → Type 0) (L : StreamName → Frame → Event → Type 0) : Type 0 where
   pub items : (name : StreamName) (stream : PlainStream) (c : Change) → slice_get stream.items stream.next ≡ Some c → G stream → L name (dcp_frame (act_message c c.act) stream.opaque stream.vb) (item_line name c)
   pub markers : (name : StreamName) (stream : PlainStream) (reply : VbReply) (snapshot : Snapshot) → replies (call.Take stream.id) (Some reply) → reply.answer ≡ answer.Taken snapshot → G stream
       → L name (dcp_frame (msg.SnapshotMarker snapshot.start snapshot.end (marker_flags snapshot.disk)) stream.opaque stream.vb) (event.Marked name snapshot.start snapshot.end (marker_flags snapshot.disk))
+  pub states : (name : StreamName) (stream : PlainStream) (told : Role) → (told ≡ role.Pending) ⊎ (told ≡ role.Active) → G stream → L name (dcp_frame (msg.SetVbucketState told) stream.opaque stream.vb) (event.Stated name told)
   pub ends : (name : StreamName) (stream : PlainStream) (reason : ℕ) → G stream → L name (dcp_frame (msg.StreamEnd reason) stream.opaque stream.vb) (event.Finished name reason)
 
 -- ---- streams among others
@@ -78,14 +88,16 @@ module _ (G : PlainStream → Type 0) where
 quiet_short : (q : QuietOnes) → quiet_halt q ≡ halt.All → ⊥
 quiet_short q = by q.waits
   where
-    by : (b : Bool) → (if b then halt.WaitSaved else halt.Idle) ≡ halt.All → ⊥
-    by true e = absurd (cc e)
-    by false e = absurd (cc e)
+    by : (w : Waits) → halt_of w ≡ halt.All → ⊥
+    by wait.Nothing e = absurd (cc e)
+    by wait.Saved e = absurd (cc e)
+    by wait.State e = absurd (cc e)
 
 few_put : (k n : ℕ) (h : Halt) → n < k → (h ≡ halt.All → ⊥) → PutFew k n h
 few_put k n halt.All few short = absurd (short refl)
 few_put k n halt.Idle few short = few
 few_put k n halt.Full few short = few
+few_put k n halt.WaitState few short = few
 few_put k n halt.WaitSaved few short = few
 
 module _ (replies : VbCall → Option VbReply → Type 0) (calls : ℕ → VbCall → Type 0) (G : PlainStream → Type 0) (L : StreamName → Frame → Event → Type 0) (takes : Takes replies calls G) (lines : Lines replies G L) where
@@ -104,13 +116,27 @@ module _ (replies : VbCall → Option VbReply → Type 0) (calls : ℕ → VbCal
       end_next : (reason : ℕ) → IsLine (over reason stream)
       end_next reason = (g, lines.ends name stream reason g)
 
+      state_line : (h : GiveUp) (s : GiveStep) → IsLine (state_next name stream h (role_of s))
+      state_line h step.SendPending = (takes.given stream (Some (done h)) g, lines.states name stream role.Pending (inl refl) g)
+      state_line h step.SendActive = (takes.given stream (Some (done h)) g, lines.states name stream role.Active (inr refl) g)
+      state_line h step.SendAll = g
+      state_line h step.AwaitPending = g
+      state_line h step.Yield = g
+      state_line h step.SendRest = g
+      state_line h step.AwaitActive = g
+      state_line h step.End = g
+
+      none_line : (o : Option GiveUp) → IsLine (none_next name stream o)
+      none_line None = g
+      none_line (Some h) = state_line (done h) (done h).step
+
       take_next : (reply : Option VbReply) → replies (call.Take stream.id) reply → IsLine (take_answered name stream reply)
       take_next None may = end_next STATE_CHANGED
       take_next (Some reply) may = by reply.answer refl
         where
           by : (a : VbAnswer) → reply.answer ≡ a → IsLine (taken_next name stream a)
           by (answer.Taken snapshot) is = (takes.marked stream reply snapshot may is g, lines.markers name stream reply snapshot may is g)
-          by answer.Nothing is = g
+          by answer.Nothing is = none_line stream.gives
           by other is = end_next STATE_CHANGED
 
       place_next : (o : Option Place) → Nexts (placed_next name stream o)
@@ -122,11 +148,30 @@ module _ (replies : VbCall → Option VbReply → Type 0) (calls : ℕ → VbCal
       either_next true x y p q = p
       either_next false x y p q = q
 
+      asks_line : Nexts (place_requested name stream)
+      asks_line = (takes.places stream g, λ reply may. place_next (place_said reply))
+
+      close_line : Nexts (close_sent stream)
+      close_line = (takes.closes stream g, λ reply may. end_next 0)
+
+      step_line : (h : GiveUp) (s : GiveStep) → Nexts (step_next name stream h s)
+      step_line h step.SendAll = asks_line
+      step_line h step.SendPending = state_line h step.SendPending
+      step_line h step.AwaitPending = g
+      step_line h step.Yield = g
+      step_line h step.SendRest = asks_line
+      step_line h step.SendActive = state_line h step.SendActive
+      step_line h step.AwaitActive = g
+      step_line h step.End = close_line
+
+      alive_line : (o : Option GiveUp) → Nexts (alive_next name stream o)
+      alive_line None = either_next (reaches_end stream.until stream.marked) (close_sent stream) (place_requested name stream) close_line asks_line
+      alive_line (Some h) = step_line h h.step
+
       any_next : (o : Option Change) → slice_get stream.items stream.next ≡ o → Nexts (next_by name stream o)
       any_next (Some c) is = (takes.passed stream c is g, lines.items name stream c is g)
       any_next None is =
-          either_next stream.ended (Done (over STATE_CHANGED stream)) (if reaches_end stream.until stream.marked then close_sent stream else place_requested name stream) (end_next STATE_CHANGED)
-          (either_next (reaches_end stream.until stream.marked) (close_sent stream) (place_requested name stream) (takes.closes stream g, λ reply may. end_next 0) (takes.places stream g, λ reply may. place_next (place_said reply)))
+          either_next stream.ended (Done (over STATE_CHANGED stream)) (alive_next name stream stream.gives) (end_next STATE_CHANGED) (alive_line stream.gives)
 
       pub next_so : Nexts (next_frame name stream)
       unfolding next_frame

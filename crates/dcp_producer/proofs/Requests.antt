@@ -1,5 +1,5 @@
 -- how a request for a stream is answered
-use Rattle.std.proofs.Common.{◌≡◌, ◌≢◌, ◌+◌, ◌<◌, ◌≤◌, ℕ, zero, suc, Bool, true, false, List, [], ◌∷◌, ◌++◌, refl, sym, ap, ◌∙◌, subst, ◌⊎◌, inl, inr, arith, Option, Some, None}
+use Rattle.std.proofs.Common.{◌≡◌, ◌≢◌, ◌+◌, ◌<◌, ◌≤◌, ℕ, Bool, true, false, List, [], ◌∷◌, ◌++◌, refl, sym, ap, ◌∙◌, subst, ◌⊎◌, inl, inr, arith, Option, Some, None}
 use Rattle.std.proofs.lemmas.Bool.{eqb-true, false_from_ne_true, false≢true}
 use Rattle.std.proofs.lemmas.List.{append_cancel_left}
 use Rattle.std.proofs.lemmas.List.Elements.{All-head, All-tail}
@@ -34,11 +34,14 @@ use Rattle.dcp_producer.specs.declared.desk.Handshake.{Handshake}
 use Rattle.dcp_producer.specs.declared.desk.Handshake.TheVariants as handshake
 use Rattle.dcp_producer.specs.declared.desk.Named.{Named}
 use Rattle.dcp_producer.specs.declared.desk.Named.TheVariants as named
-use Rattle.dcp_producer.specs.Producers.{PlainStream, PlainProducer, Served, is_named, is_open, is_sync, stream_at}
-use Rattle.dcp_producer.specs.Serving.{MOST_STREAMS, log_of_answer, log_of_reply, high_of_answer, high_of_reply, ask_verdict, request_refusal, opens, next_stream, verdict_of, verdict_with, with_asked, with_granted, stream_verdict, new_stream, stream_answered, opened_answered, opening_requested, refused_answered, refusal_requested, stream_request}
+use Rattle.dcp_producer.specs.Producers.{is_client, PlainStream, PlainProducer, Served, is_named, is_open, is_sync, stream_at}
+use Rattle.dcp_producer.specs.Counting.{IsClients}
+use Rattle.takeover.specs.GivingUp.{new_give_up}
+use Rattle.vb_events.specs.declared.event.StreamName.TheVariants as name
+use Rattle.dcp_producer.specs.Serving.{MOST_STREAMS, gives_of, log_of_answer, log_of_reply, high_of_answer, high_of_reply, ask_verdict, request_refusal, opens, next_stream, verdict_of, verdict_with, with_asked, with_granted, stream_verdict, new_stream, stream_answered, opened_answered, opening_requested, refused_answered, refusal_requested, stream_request}
 use Rattle.dcp_producer.specs.Handshaking.{IsGiven}
 use Rattle.dcp_producer.specs.Having.{IsOpened, NoneOf, IsStreamOf}
-use Rattle.dcp_producer.specs.Requesting.{IsOutside, IsFree, number_behind, IsAgainst, IsForIt, AnsweredWith, AsksFor, Replies, OneReply, RefusedWith, IsInactive}
+use Rattle.dcp_producer.specs.Requesting.{AreTaken, IsOutside, IsFree, number_behind, IsAgainst, IsForIt, AnsweredWith, AsksFor, Replies, OneReply, RefusedWith, IsInactive}
 use Rattle.dcp_producer.proofs.Finding.{none_at, found_at}
 
 -- the table of reasons, by the tests
@@ -48,36 +51,43 @@ reason shut many takeover none = if shut then Some status.Einval else if many th
 module _ (end : PlainProducer) (ask : StreamAsk) where
   -- before OPEN
   fresh_refusal : end.handshake ≡ handshake.Fresh → request_refusal end ask ≡ Some status.Einval
-  fresh_refusal fresh = ap (λ h. reason (not (is_open h)) (nat_lt 1 ask.flags) (ask.flags == 1) (nat_le MOST_STREAMS end.asked)) fresh
+  fresh_refusal fresh = ap (λ h. reason (not (is_open h)) (nat_lt 1 ask.flags) (ask.flags == 1 && is_client end.desk.stream) (nat_le MOST_STREAMS end.asked)) fresh
 
   -- for flags that are not known
-  either_way : (b : Bool) → reason b true (ask.flags == 1) (nat_le MOST_STREAMS end.asked) ≡ Some status.Einval
+  either_way : (b : Bool) → reason b true (ask.flags == 1 && is_client end.desk.stream) (nat_le MOST_STREAMS end.asked) ≡ Some status.Einval
   either_way true = refl
   either_way false = refl
 
   flags_refusal : 1 < ask.flags → request_refusal end ask ≡ Some status.Einval
   flags_refusal above =
       let e : nat_lt 1 ask.flags ≡ true = grind (arith, nat_tests) in
-      ap (λ b. reason (not (is_open end.handshake)) b (ask.flags == 1) (nat_le MOST_STREAMS end.asked)) e ∙ either_way (not (is_open end.handshake))
+      ap (λ b. reason (not (is_open end.handshake)) b (ask.flags == 1 && is_client end.desk.stream) (nat_le MOST_STREAMS end.asked)) e ∙ either_way (not (is_open end.handshake))
 
   is_opened : (h : Handshake) → (h ≡ handshake.Fresh → ⊥) → is_open h ≡ true
   is_opened handshake.Fresh opened = absurd (opened refl)
   is_opened (handshake.Open sync name) opened = refl
 
   -- for the flags of a takeover, and for none
-  open_refusal_is : (n : ℕ) → (end.handshake ≡ handshake.Fresh → ⊥) → ask.flags ≡ n → request_refusal end ask ≡ reason false (nat_lt 1 n) (n == 1) (nat_le MOST_STREAMS end.asked)
-  open_refusal_is n opened flags = λ i. reason (not (is_opened end.handshake opened i)) (nat_lt 1 (flags i)) (flags i == 1) (nat_le MOST_STREAMS end.asked)
+  open_refusal_is : (n : ℕ) (client : Bool) → (end.handshake ≡ handshake.Fresh → ⊥) → ask.flags ≡ n → is_client end.desk.stream ≡ client → request_refusal end ask ≡ reason false (nat_lt 1 n) (n == 1 && client) (nat_le MOST_STREAMS end.asked)
+  open_refusal_is n client opened flags named = λ i. reason (not (is_opened end.handshake opened i)) (nat_lt 1 (flags i)) (flags i == 1 && named i) (nat_le MOST_STREAMS end.asked)
+
+  abbrev Taken : Type 0
+  Taken = (ask.flags ≡ 0) ⊎ ((ask.flags ≡ 1) × ((number : ℕ) × (end.desk.stream ≡ name.Link number)))
+
+  taken_refusal : (end.handshake ≡ handshake.Fresh → ⊥) → Taken → request_refusal end ask ≡ reason false false false (nat_le MOST_STREAMS end.asked)
+  taken_refusal opened (inl flags) = open_refusal_is 0 (is_client end.desk.stream) opened flags refl
+  taken_refusal opened (inr (flags, (number, link))) = open_refusal_is 1 false opened flags (ap is_client link)
 
   -- where no number is left
-  numbers_refusal : (end.handshake ≡ handshake.Fresh → ⊥) → ask.flags ≡ 0 → 4294967295 ≤ end.asked → request_refusal end ask ≡ Some status.Etmpfail
-  numbers_refusal opened flags all =
+  numbers_refusal : (end.handshake ≡ handshake.Fresh → ⊥) → Taken → 4294967295 ≤ end.asked → request_refusal end ask ≡ Some status.Etmpfail
+  numbers_refusal opened taken all =
       let e : nat_le MOST_STREAMS end.asked ≡ true = grind (arith, nat_tests) in
-      open_refusal_is 0 opened flags ∙ ap (reason false false false) e
+      taken_refusal opened taken ∙ ap (reason false false false) e
 
-  none_refused : (end.handshake ≡ handshake.Fresh → ⊥) → ask.flags ≡ 0 → end.asked < 4294967295 → request_refusal end ask ≡ None
-  none_refused opened flags left =
+  none_refused : (end.handshake ≡ handshake.Fresh → ⊥) → Taken → end.asked < 4294967295 → request_refusal end ask ≡ None
+  none_refused opened taken left =
       let e : nat_le MOST_STREAMS end.asked ≡ false = grind (arith, nat_tests) in
-      open_refusal_is 0 opened flags ∙ ap (reason false false false) e
+      taken_refusal opened taken ∙ ap (reason false false false) e
 
   some_by : (shut many takeover : Bool) → (shut ≡ true) ⊎ (many ≡ true) ⊎ (takeover ≡ true) ⊎ (nat_le MOST_STREAMS end.asked ≡ true) → is_some (reason shut many takeover (nat_le MOST_STREAMS end.asked)) ≡ true
   some_by true many takeover one = refl
@@ -88,19 +98,13 @@ module _ (end : PlainProducer) (ask : StreamAsk) where
   some_by false false false (inr (inr (inl is))) = absurd (false≢true is)
   some_by false false false (inr (inr (inr is))) = ap (λ b. is_some (reason false false false b)) is
 
-  flagged : (n : ℕ) → 0 < n → (nat_lt 1 n ≡ true) ⊎ ((n == 1) ≡ true)
-  flagged zero above = absurd (let e : ⊥ = omega arith in e)
-  flagged (suc zero) above = inr refl
-  flagged (suc (suc n)) above = inl (grind (arith, nat_tests))
-
-  against : (end.handshake ≡ handshake.Fresh) ⊎ (0 < ask.flags) ⊎ (4294967295 ≤ end.asked) → is_some (request_refusal end ask) ≡ true
+  against : (end.handshake ≡ handshake.Fresh) ⊎ (1 < ask.flags) ⊎ ((ask.flags ≡ 1) × ((node : ℕ) × (client : ℕ) × (end.desk.stream ≡ name.Client node client))) ⊎ (4294967295 ≤ end.asked) → is_some (request_refusal end ask) ≡ true
   against (inl fresh) = ap is_some (fresh_refusal fresh)
-  against (inr (inl above)) = some_by (not (is_open end.handshake)) (nat_lt 1 ask.flags) (ask.flags == 1) (by (flagged ask.flags above))
-    where
-      by : (nat_lt 1 ask.flags ≡ true) ⊎ ((ask.flags == 1) ≡ true) → (not (is_open end.handshake) ≡ true) ⊎ (nat_lt 1 ask.flags ≡ true) ⊎ ((ask.flags == 1) ≡ true) ⊎ (nat_le MOST_STREAMS end.asked ≡ true)
-      by (inl many) = inr (inl many)
-      by (inr takeover) = inr (inr (inl takeover))
-  against (inr (inr all)) = some_by (not (is_open end.handshake)) (nat_lt 1 ask.flags) (ask.flags == 1) (inr (inr (inr (grind (arith, nat_tests)))))
+  against (inr (inl above)) = ap is_some (flags_refusal above)
+  against (inr (inr (inl (flags, (node, client, named))))) =
+      let one : (ask.flags == 1) ≡ true = grind (arith, nat_tests, flags) in
+      some_by (not (is_open end.handshake)) (nat_lt 1 ask.flags) (ask.flags == 1 && is_client end.desk.stream) (inr (inr (inl (λ i. one i && is_client (named i)))))
+  against (inr (inr (inr all))) = some_by (not (is_open end.handshake)) (nat_lt 1 ask.flags) (ask.flags == 1 && is_client end.desk.stream) (inr (inr (inr (grind (arith, nat_tests)))))
 
 -- whether the vBucket is asked to open a stream
 module _ (f : Frame) (ask : StreamAsk) (s : Served) where
@@ -176,7 +180,7 @@ module _ (f : Frame) (ask : StreamAsk) (s : Served) (log : List LogEntry) (high 
     go = λ e. ap said_out e;
     begins = λ e more. (
       new_stream (next_stream s.end) f ask,
-      record { number = refl; vb = refl; opaque = refl; until = refl; items = refl; next = refl; marked = refl; reached = refl; ended = refl },
+      record { number = refl; vb = refl; opaque = refl; until = refl; items = refl; next = refl; marked = refl; reached = refl; ended = refl; gives = λ one. (new_give_up, ap gives_of one, refl); feeds = λ other. ap (λ b. if b then Some new_give_up else None) (false_from_ne_true (ask.flags == 1) (λ t. other (eqb-true ask.flags 1 t))) },
       ap opened_end e,
     );
     roll = λ point e. (ap said_out e, ap opened_end e);
@@ -374,13 +378,13 @@ module _ (f : Frame) (ask : StreamAsk) (s : Served) (states : States) where
 
   pub einval_first : (s.end.handshake ≡ handshake.Fresh) ⊎ (1 < ask.flags) → RefusedWith 4 f ask s states
   einval_first (inl fresh) = self_refused status.Einval (inl fresh) (fresh_refusal s.end ask fresh)
-  einval_first (inr above) = self_refused status.Einval (inr (inl (omega (arith, above)))) (flags_refusal s.end ask above)
+  einval_first (inr above) = self_refused status.Einval (inr (inl above)) (flags_refusal s.end ask above)
 
-  pub unsupported_next : IsOpened s → ask.flags ≡ 1 → RefusedWith 0x83 f ask s states
-  unsupported_next opened flags = self_refused status.NotSupported (inr (inl (omega (arith, flags)))) (open_refusal_is s.end ask 1 opened flags)
+  pub unsupported_next : IsOpened s → IsClients s → ask.flags ≡ 1 → RefusedWith 0x83 f ask s states
+  unsupported_next opened client flags = self_refused status.NotSupported (inr (inr (inl (flags, client)))) (open_refusal_is s.end ask 1 true opened flags (ap is_client client.2))
 
-  pub numbers_then : IsOpened s → ask.flags ≡ 0 → 4294967295 ≤ s.end.asked → RefusedWith 0x86 f ask s states
-  numbers_then opened flags all = self_refused status.Etmpfail (inr (inr all)) (numbers_refusal s.end ask opened flags all)
+  pub numbers_then : IsOpened s → AreTaken ask s → 4294967295 ≤ s.end.asked → RefusedWith 0x86 f ask s states
+  numbers_then opened taken all = self_refused status.Etmpfail (inr (inr (inr all))) (numbers_refusal s.end ask opened taken all)
 
   -- by the vBucket
   pub inactive_then : IsForIt ask s → IsInactive (states f.vb_or_status) → RefusedWith 7 f ask s states

@@ -15,9 +15,13 @@ use Rattle.dcp_producer.specs.declared.halt.Halt.{Halt}
 use Rattle.dcp_producer.specs.Producers.{PlainStream, PlainProducer, Served, Rising, new_end, ring_of, with_opened, without_id, without_place, without_stream}
 use Rattle.dcp_producer.specs.Ending.{ended_in, ended_by}
 use Rattle.dcp_producer.specs.Pulling.{frames_put}
-use Rattle.dcp_producer.specs.Serving.{next_stream, with_asked, new_stream, frame_answered}
+use Rattle.dcp_producer.specs.Serving.{next_stream, with_asked, new_stream, frame_answered, heard}
+use Rattle.std.specs.Option.{option_map}
+use Rattle.takeover.specs.GivingUp.{answered}
+use Rattle.dcp_producer.specs.Wanting.{AllPersist}
+use Rattle.dcp_producer.proofs.Persisting.{kept_persist, persist_long}
 use Rattle.dcp_producer.specs.Having.{NoneOf, AreOfOthers, IsSound, AnswersSound, PullsSound}
-use Rattle.dcp_producer.proofs.Kept.{kept_less, kept_ended}
+use Rattle.dcp_producer.proofs.Kept.{kept_less, kept_ended, kept_heard}
 use Rattle.dcp_producer.proofs.Closing.{length_ids, sound_kept}
 use Rattle.dcp_producer.proofs.Answering.{Stays, stays_answered}
 use Rattle.dcp_producer.proofs.Walking.{Ends, ends_all, ends_full, ends_quiet, always_told}
@@ -142,6 +146,58 @@ module _ (v : ℕ) (ids : List ℕ) where
       let kept = kept_ended end.desk.base end.asked v ids end.streams (ring_of end) (sound_kept end sound) in
       record { apart = apart_ended end.streams sound.apart; rise = kept.rise; numbered = kept.numbered; turn = subst (λ n. end.turn ≤ n) (sym (long_ended end.streams)) sound.turn }
 
+-- ---- a state that was answered
+
+heard_vb : (opaque : ℕ) (s : PlainStream) (b : Bool) → (if b then record s { gives = option_map answered s.gives } else s).vb ≡ s.vb
+heard_vb opaque s true = refl
+heard_vb opaque s false = refl
+
+module _ (opaque : ℕ) where
+  none_heard : (w : ℕ) (xs : List PlainStream) → NoneOf w xs → NoneOf w (map (heard opaque) xs)
+  none_heard w [] none = none
+  none_heard w (x ∷ xs) none =
+      All-cons (λ (o : PlainStream). o.vb ≢ w) (heard opaque x) (map (heard opaque) xs)
+      (λ is. All-head (λ (o : PlainStream). o.vb ≢ w) x xs none (sym (heard_vb opaque x (x.opaque == opaque)) ∙ is))
+      (none_heard w xs (All-tail (λ (o : PlainStream). o.vb ≢ w) x xs none))
+
+  apart_heard : (xs : List PlainStream) → AreOfOthers xs → AreOfOthers (map (heard opaque) xs)
+  apart_heard [] apart = apart
+  apart_heard (x ∷ xs) (others, apart) = (
+    subst (λ w. NoneOf w (map (heard opaque) xs)) (sym (heard_vb opaque x (x.opaque == opaque))) (none_heard x.vb xs others),
+    apart_heard xs apart,
+  )
+
+  long_heard : (xs : List PlainStream) → length (map (heard opaque) xs) ≡ length xs
+  long_heard [] = refl
+  long_heard (x ∷ xs) = ap suc (long_heard xs)
+
+  pub sound_heard : (end : PlainProducer) → IsSound end → IsSound (record end { streams = map (heard opaque) end.streams })
+  sound_heard end sound =
+      let kept = kept_heard end.desk.base end.asked opaque end.streams (ring_of end) (sound_kept end sound) in
+      record { apart = apart_heard end.streams sound.apart; rise = kept.rise; numbered = kept.numbered; turn = subst (λ n. end.turn ≤ n) (sym (long_heard end.streams)) sound.turn }
+
+-- ---- streams that are the same ones
+
+none_persist : (w : ℕ) (xs ys : List PlainStream) → AllPersist xs ys → NoneOf w xs → NoneOf w ys
+none_persist w [] ys same none = subst (NoneOf w) (sym same) none
+none_persist w (x ∷ xs) [] same none = absurd same
+none_persist w (x ∷ xs) (y ∷ ys) ((id, vb, opaque, ends), same) none =
+    All-cons (λ (o : PlainStream). o.vb ≢ w) y ys (λ is. All-head (λ (o : PlainStream). o.vb ≢ w) x xs none (sym vb ∙ is))
+    (none_persist w xs ys same (All-tail (λ (o : PlainStream). o.vb ≢ w) x xs none))
+
+apart_persist : (xs ys : List PlainStream) → AllPersist xs ys → AreOfOthers xs → AreOfOthers ys
+apart_persist [] ys same apart = subst AreOfOthers (sym same) apart
+apart_persist (x ∷ xs) [] same apart = absurd same
+apart_persist (x ∷ xs) (y ∷ ys) ((id, vb, opaque, ends), same) (others, apart) = (
+  subst (λ w. NoneOf w ys) (sym vb) (none_persist x.vb xs ys same others),
+  apart_persist xs ys same apart,
+)
+
+pub sound_persists : (end : PlainProducer) (streams : List PlainStream) → AllPersist end.streams streams → IsSound end → IsSound (record end { streams = streams })
+sound_persists end streams same sound =
+    let kept = kept_persist end.desk.base end.asked end.streams streams (ring_of end) same (sound_kept end sound) in
+    record { apart = apart_persist end.streams streams same sound.apart; rise = kept.rise; numbered = kept.numbered; turn = subst (λ n. end.turn ≤ n) (sym (persist_long end.streams streams same)) sound.turn }
+
 -- ---- answers
 
 sound_shaken : (end : PlainProducer) (h : Handshake) → IsSound end → IsSound (record end { handshake = h })
@@ -158,6 +214,7 @@ module _ (f : Frame) (s : Served) (sound : IsSound s.end) where
     window = λ w. sound_window s.end w sound;
     asked = sound_asked s.end sound;
     opened = λ ask none. sound_opened s.end sound f ask none;
+    taken = λ is. sound_heard f.opaque s.end sound;
     without = λ stream there. sound_without s.end stream.id sound;
   }
 

@@ -5,6 +5,11 @@ use Rattle.std.proofs.lemmas.Bool.{eqb-true}
 use Rattle.vb_types.specs.declared.change.Change.{Change}
 use Rattle.vb_types.specs.declared.stream.Place.{Place}
 use Rattle.vb_types.specs.declared.stream.Place.TheVariants as place
+use Rattle.vb_types.specs.declared.role.Role.{Role}
+use Rattle.takeover.specs.GivingUp.{done}
+use Rattle.takeover.specs.declared.give_up.GiveStep.{GiveStep}
+use Rattle.takeover.specs.declared.give_up.GiveStep.TheVariants as step
+use Rattle.takeover.specs.declared.give_up.GiveUp.{GiveUp}
 use Rattle.vb_events.specs.declared.event.StreamName.{StreamName}
 use Rattle.vb_calls.specs.declared.calls.VbCall.{VbCall}
 use Rattle.vb_calls.specs.declared.calls.VbCall.TheVariants as call
@@ -18,7 +23,8 @@ use Rattle.vb_calls.specs.Streams.{end_span, is_in_memory, place_row, stream_at,
 use Rattle.vb_calls.specs.Programs.{Prog, Done, Call, after, AnyCall, Always}
 use Rattle.vb_calls.proofs.Conduct.{after_always, after_elsewhere}
 use Rattle.dcp_producer.specs.declared.next_frame.NextFrame.TheVariants as next
-use Rattle.dcp_producer.specs.Frames.{Next, STATE_CHANGED, close_sent, next_by, next_frame, over, place_requested, place_said, place_told, placed_next, reaches_end, take_answered, taken_next}
+use Rattle.dcp_producer.specs.declared.next_frame.Waits.{Waits}
+use Rattle.dcp_producer.specs.Frames.{Next, STATE_CHANGED, alive_next, none_next, role_of, state_next, step_next, close_sent, next_by, next_frame, over, place_requested, place_said, place_told, placed_next, reaches_end, take_answered, taken_next}
 use Rattle.dcp_producer.specs.AskingAll.{StaysQuiet}
 use Rattle.dcp_producer.specs.Producers.{PlainStream}
 use Rattle.dcp_producer.proofs.Framing.{GoesOn, frame_same}
@@ -44,13 +50,22 @@ module _ (name : StreamName) (stream : PlainStream) (states : States) where
   abbrev id : ℕ
   id = stream.id
 
+  -- a state, or none
+  state_leaves : (g : GiveUp) (o : Option Role) → LeavesAll states stream (states, state_next name stream g o)
+  state_leaves g None = (refl, refl)
+  state_leaves g (Some told) = tt
+
+  none_leaves : (o : Option GiveUp) → LeavesAll states stream (states, none_next name stream o)
+  none_leaves None = (refl, refl)
+  none_leaves (Some g) = state_leaves (done g) (role_of (done g).step)
+
   -- behind a take
   taken : (o : Option Plain) → states v ≡ o → LeavesAll states stream ((call_at states v (call.Take id) o).0, take_answered name stream (call_at states v (call.Take id) o).1)
   taken None there = tt
   taken (Some vb) there = by (stream_at id vb.streams)
     where
       given : (s : Stream) (w : Option Span) → LeavesAll states stream (with_vb_at states v (take_to w s vb).0, taken_next name stream (take_to w s vb).1.answer)
-      given s None = (with_itself states v vb there, refl)
+      given s None = subst (λ (left : States). LeavesAll states stream (left, none_next name stream stream.gives)) (sym (with_itself states v vb there)) (none_leaves stream.gives)
       given s (Some w) = tt
 
       by : (o : Option Stream) → LeavesAll states stream (with_vb_at states v (take_from o vb).0, taken_next name stream (take_from o vb).1.answer)
@@ -72,9 +87,23 @@ module _ (name : StreamName) (stream : PlainStream) (states : States) where
   reached true = tt
   reached false = asked (states v) refl
 
-  ended : (b : Bool) → LeavesAll states stream (after (if b then Done (over STATE_CHANGED stream) else if reaches_end stream.until stream.marked then close_sent stream else place_requested name stream) states)
+  steps : (g : GiveUp) (s : GiveStep) → LeavesAll states stream (after (step_next name stream g s) states)
+  steps g step.SendAll = asked (states v) refl
+  steps g step.SendPending = tt
+  steps g step.AwaitPending = (refl, refl)
+  steps g step.Yield = (refl, refl)
+  steps g step.SendRest = asked (states v) refl
+  steps g step.SendActive = tt
+  steps g step.AwaitActive = (refl, refl)
+  steps g step.End = tt
+
+  alive : (o : Option GiveUp) → LeavesAll states stream (after (alive_next name stream o) states)
+  alive None = reached (reaches_end stream.until stream.marked)
+  alive (Some g) = steps g g.step
+
+  ended : (b : Bool) → LeavesAll states stream (after (if b then Done (over STATE_CHANGED stream) else alive_next name stream stream.gives) states)
   ended true = tt
-  ended false = reached (reaches_end stream.until stream.marked)
+  ended false = alive stream.gives
 
   items : (item : Option Change) → LeavesAll states stream (after (next_by name stream item) states)
   items None = ended stream.ended
@@ -85,7 +114,7 @@ module _ (name : StreamName) (stream : PlainStream) (states : States) where
   leaves_all = items (slice_get stream.items stream.next)
 
   -- a stream that is quiet changes nothing
-  pub quiet_leaves : (left : States) (waits : Bool) (s : PlainStream) → after (next_frame name stream) states ≡ (left, (next.Quiet waits, s)) → (left ≡ states) × (s ≡ stream)
+  pub quiet_leaves : (left : States) (waits : Waits) (s : PlainStream) → after (next_frame name stream) states ≡ (left, (next.Quiet waits, s)) → (left ≡ states) × (s ≡ stream)
   quiet_leaves left waits s is = subst (LeavesAll states stream) is leaves_all
 
 -- ---- a stream calls its own vBucket alone
@@ -109,9 +138,23 @@ module _ (name : StreamName) (stream : PlainStream) where
   reached_own true = (refl, λ reply any. tt)
   reached_own false = (refl, λ reply any. placed_own (place_said reply))
 
-  ended_own : (b : Bool) → Own (if b then Done (over STATE_CHANGED stream) else if reaches_end stream.until stream.marked then close_sent stream else place_requested name stream)
+  step_own : (g : GiveUp) (s : GiveStep) → Own (step_next name stream g s)
+  step_own g step.SendAll = reached_own false
+  step_own g step.SendPending = tt
+  step_own g step.AwaitPending = tt
+  step_own g step.Yield = tt
+  step_own g step.SendRest = reached_own false
+  step_own g step.SendActive = tt
+  step_own g step.AwaitActive = tt
+  step_own g step.End = reached_own true
+
+  alive_own : (o : Option GiveUp) → Own (alive_next name stream o)
+  alive_own None = reached_own (reaches_end stream.until stream.marked)
+  alive_own (Some g) = step_own g g.step
+
+  ended_own : (b : Bool) → Own (if b then Done (over STATE_CHANGED stream) else alive_next name stream stream.gives)
   ended_own true = tt
-  ended_own false = reached_own (reaches_end stream.until stream.marked)
+  ended_own false = alive_own stream.gives
 
   items_own : (item : Option Change) → Own (next_by name stream item)
   items_own None = ended_own stream.ended
@@ -159,11 +202,11 @@ module _ (name : StreamName) (stream : PlainStream) where
   same_next a b same = after_own stream.vb Any (next_frame name stream) a b (own name stream) same
 
   -- it is quiet so, and changes nothing
-  abbrev IsStillSo : Bool → States → Type 0
+  abbrev IsStillSo : Waits → States → Type 0
   IsStillSo waits states = after (next_frame name stream) states ≡ (states, (next.Quiet waits, stream))
 
   -- and so it is again while its vBucket stays as it is
-  again_so : (a b : States) (waits : Bool) → a stream.vb ≡ b stream.vb → IsStillSo waits a → IsStillSo waits b
+  again_so : (a b : States) (waits : Waits) → a stream.vb ≡ b stream.vb → IsStillSo waits a → IsStillSo waits b
   again_so a b waits same is =
       let x : States × Next = after (next_frame name stream) b in
       let comes : x.1 ≡ (next.Quiet waits, stream) = sym (same_next a b same) ∙ ap (λ (y : States × Next). y.1) is in
@@ -173,7 +216,7 @@ module _ (name : StreamName) (stream : PlainStream) where
 
   -- the same, whether it waits or not
   abbrev pub IsStill : States → Type 0
-  IsStill states = (waits : Bool) × IsStillSo waits states
+  IsStill states = (waits : Waits) × IsStillSo waits states
 
   pub still_again : (a b : States) → a stream.vb ≡ b stream.vb → IsStill a → IsStill b
   still_again a b same (waits, is) = (waits, again_so a b waits same is)

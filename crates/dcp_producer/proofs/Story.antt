@@ -1,7 +1,7 @@
 -- what a pull does, try by try
 use Rattle.std.proofs.Common.{◌≡◌, ◌≢◌, ◌⊎◌, ◌+◌, ◌<◌, ◌≤◌, ℕ, suc, Bool, true, false, List, [], ◌∷◌, ◌++◌, length, map, refl, sym, ap, ◌∙◌, subst, inl, inr, append-nil, append_assoc, arith, Some, None}
-use Rattle.std.specs.Prelude.{if◌then◌else◌, ◌||◌, ◌==◌}
-use Rattle.std.specs.List.{All, concat, list_any}
+use Rattle.std.specs.Prelude.{if◌then◌else◌, ◌==◌}
+use Rattle.std.specs.List.{All, concat}
 use Rattle.std.proofs.lemmas.Bool.Decides.{nat_tests}
 use Rattle.std.proofs.lemmas.List.{map-append, length-append}
 use Rattle.std.proofs.lemmas.List.Elements.{All-head, All-tail, All-nil, All-cons, All-append}
@@ -18,16 +18,18 @@ use Rattle.flow_control.specs.Windows.{is_open, with_put}
 use Rattle.dcp_producer.specs.declared.halt.Halt.{Halt}
 use Rattle.dcp_producer.specs.declared.next_frame.NextFrame.{NextFrame}
 use Rattle.dcp_producer.specs.declared.next_frame.NextFrame.TheVariants as next
+use Rattle.dcp_producer.specs.declared.next_frame.Waits.{Waits}
+use Rattle.dcp_producer.specs.declared.next_frame.Waits.TheVariants as wait
 use Rattle.dcp_producer.specs.Frames.{Next, next_frame}
 use Rattle.dcp_producer.specs.Producers.{PlainStream, PlainProducer, Served, with_turn}
-use Rattle.dcp_producer.specs.Pulling.{QuietOnes, none_quiet, with_quiet, is_quiet, Pulling, pull_of, past_turn, stream_in_turn, frame_put, end_put, stream_went, came, frames_put}
+use Rattle.dcp_producer.specs.Pulling.{QuietOnes, first_wait, none_quiet, with_quiet, is_quiet, Pulling, pull_of, past_turn, stream_in_turn, frame_put, end_put, stream_went, came, frames_put}
 use Rattle.dcp_producer.specs.Holding.{Passes, PassAll}
 use Rattle.dcp_producer.specs.Having.{IsSound}
 use Rattle.dcp_producer.specs.Turns.{turns_of, Tried, IsTold, standing_by, StandApart, waiting, TakeTurns, put_by, put_in, made_in, NextOrder, TurnsOn}
-use Rattle.dcp_producer.proofs.Framing.{Same, GoesOn, frame_kind, FrameCase, an_item, by_role, all_sent, it_waits, no_place, a_marker, nothing, no_take, frame_same, frame_told}
+use Rattle.dcp_producer.proofs.Framing.{Same, GoesOn, frame_kind, FrameCase, an_item, by_role, all_sent, it_waits, no_place, a_marker, nothing, all_up, a_state, awaits, no_take, frame_same, frame_told}
 use Rattle.dcp_producer.proofs.Turning.{InTurn, before, behind, in_turn, turn_is, turned_so, end_with, end_less, went_so, over_so, order_with, order_less, sound_with, sound_less}
 use Rattle.dcp_producer.proofs.Walking.{IsPassed, CameSo, Ends, told_always, walk}
-use Rattle.dcp_producer.proofs.Awake.{awake_in, awake_of, says_wait, awake_append, asleep, awake, quiet_then, awake_same, takes_more, stands_more, flat_map_more, any_more, or_none, or_false, passes_more, frames_of, bytes_of, lines_of, bytes_more, orders_more}
+use Rattle.dcp_producer.proofs.Awake.{awake_in, awake_of, says_wait, awake_append, asleep, awake, quiet_then, awake_same, takes_more, stands_more, flat_map_more, wait_none, waits_in, waits_more, passes_more, frames_of, bytes_of, lines_of, bytes_more, orders_more}
 
 -- what a pull did behind so many frames, where the order of turns was so when the last of them was put
 pub record Story (s : Served) (base : List PlainStream) (n : ℕ) (made : List Made) (p : Pulling) : Type 0 where
@@ -46,7 +48,7 @@ pub record Story (s : Served) (base : List PlainStream) (n : ℕ) (made : List M
   pub desk : p.served.end.desk ≡ s.end.desk
   pub shaken : p.served.end.handshake ≡ s.end.handshake
   pub asked : p.served.end.asked ≡ s.end.asked
-  pub waits : p.quiet.waits ≡ list_any (λ t. says_wait t.next) tries
+  pub waits : p.quiet.waits ≡ waits_in (λ t. says_wait t.next) tries
 
 -- the first of the turns were those of streams that are quiet
 pub record Rotated (i : ℕ) (base : List PlainStream) (p : Pulling) : Type 0 where
@@ -121,7 +123,7 @@ module _ (s : Served) where
   })
 
   -- a stream was quiet
-  quiet_story : (base : List PlainStream) (n : ℕ) (made : List Made) (p : Pulling) → Story s base n made p → (end : PlainProducer) (t : Tried) (waits : Bool) (rest : List PlainStream)
+  quiet_story : (base : List PlainStream) (n : ℕ) (made : List Made) (p : Pulling) → Story s base n made p → (end : PlainProducer) (t : Tried) (waits : Waits) (rest : List PlainStream)
       → (front back : List PlainStream) → p.served.end.streams ≡ front ++ t.stream ∷ back → end.streams ≡ standing_by t.next t.left front back
       → awake_of p ≡ t.stream ∷ rest → IsTold name t → t.next ≡ next.Quiet waits → awake_in (with_quiet t.left.id waits p.quiet) (turns_of end) ≡ rest
       → IsSound end → end.desk ≡ p.served.end.desk → end.handshake ≡ p.served.end.handshake → end.asked ≡ p.served.end.asked → end.window ≡ p.served.end.window
@@ -146,14 +148,14 @@ module _ (s : Served) where
         shaken = shaken ∙ b.shaken;
         asked = asked ∙ b.asked;
         waits =
-            ap (λ w. w || waits) b.waits
-            ∙ sym (any_more (λ (u : Tried). says_wait u.next) b.tries t ∙ ap (λ x. list_any (λ (u : Tried). says_wait u.next) b.tries || (says_wait x || false)) is ∙ ap (λ w. list_any (λ (u : Tried). says_wait u.next) b.tries || w) (or_false waits));
+            ap (λ w. first_wait w waits) b.waits
+            ∙ sym (waits_more (λ (u : Tried). says_wait u.next) b.tries t ∙ ap (λ x. first_wait (waits_in (λ (u : Tried). says_wait u.next) b.tries) (says_wait x)) is);
       }
 
   -- a stream put a frame, or its end
   put_story : (base : List PlainStream) (n : ℕ) (made : List Made) (p : Pulling) → Story s base n made p → (end : PlainProducer) (t : Tried) (f : Frame) (line : Event) (rest : List PlainStream)
       → (front back : List PlainStream) → p.served.end.streams ≡ front ++ t.stream ∷ back → end.streams ≡ standing_by t.next t.left front back
-      → awake_of p ≡ t.stream ∷ rest → IsTold name t → put_by name t.next t.left ≡ (f, line) ∷ [] → says_wait t.next ≡ false → awake_in p.quiet (turns_of end) ≡ waiting t.next t.left rest
+      → awake_of p ≡ t.stream ∷ rest → IsTold name t → put_by name t.next t.left ≡ (f, line) ∷ [] → says_wait t.next ≡ wait.Nothing → awake_in p.quiet (turns_of end) ≡ waiting t.next t.left rest
       → NextOrder t.next t.stream t.left base (turns_of end)
       → IsSound end → end.desk ≡ p.served.end.desk → end.handshake ≡ p.served.end.handshake → end.asked ≡ p.served.end.asked → Passes (length (spelling f)) p.served.end.window end.window
       → Story s (turns_of end) (suc n) (made ++ t.made)
@@ -184,8 +186,7 @@ module _ (s : Served) where
         shaken = shaken ∙ b.shaken;
         asked = asked ∙ b.asked;
         waits = b.waits
-            ∙ or_none (list_any (λ (u : Tried). says_wait u.next) b.tries) (says_wait t.next) talks
-            ∙ sym (any_more (λ (u : Tried). says_wait u.next) b.tries t);
+            ∙ sym (waits_more (λ (u : Tried). says_wait u.next) b.tries t ∙ ap (first_wait (waits_in (λ (u : Tried). says_wait u.next) b.tries)) talks ∙ wait_none (waits_in (λ (u : Tried). says_wait u.next) b.tries));
       }
 
 -- ---- along the walk
@@ -196,14 +197,17 @@ passes w len true none free = (refl, inl (grind (arith, nat_tests), refl))
 passes w len false some free = (refl, inr (grind (arith, nat_tests), refl))
 
 -- a stream that is quiet stays as it is
-quiet_stays : (link : StreamName) (stream : PlainStream) (made : List Made) (waits : Bool) (left : PlainStream) → FrameCase link stream made (next.Quiet waits, left) → left ≡ stream
+quiet_stays : (link : StreamName) (stream : PlainStream) (made : List Made) (waits : Waits) (left : PlainStream) → FrameCase link stream made (next.Quiet waits, left) → left ≡ stream
 quiet_stays link stream made waits left (an_item c there none is) = absurd (let e : 2 ≡ 0 = ap (λ (x : Next). frame_kind x.0) is in omega (arith, e))
 quiet_stays link stream made waits left (by_role put ended none is) = absurd (let e : 2 ≡ 1 = ap (λ (x : Next). frame_kind x.0) is in omega (arith, e))
 quiet_stays link stream made waits left (all_sent put alive reached reply none is) = absurd (let e : 2 ≡ 1 = ap (λ (x : Next). frame_kind x.0) is in omega (arith, e))
 quiet_stays link stream made waits left (it_waits more reply said calls is) = ap (λ (x : Next). x.1) is
 quiet_stays link stream made waits left (no_place more reply said calls is) = absurd (let e : 2 ≡ 1 = ap (λ (x : Next). frame_kind x.0) is in omega (arith, e))
 quiet_stays link stream made waits left (a_marker more from reply snapshot said tells calls is) = absurd (let e : 2 ≡ 0 = ap (λ (x : Next). frame_kind x.0) is in omega (arith, e))
-quiet_stays link stream made waits left (nothing more from reply said tells calls is) = ap (λ (x : Next). x.1) is
+quiet_stays link stream made waits left (nothing more none from reply said tells calls is) = ap (λ (x : Next). x.1) is
+quiet_stays link stream made waits left (all_up more g gives told at from reply said tells calls is) = absurd (let e : 2 ≡ 0 = ap (λ (x : Next). frame_kind x.0) is in omega (arith, e))
+quiet_stays link stream made waits left (a_state put alive g gives told at none is) = absurd (let e : 2 ≡ 0 = ap (λ (x : Next). frame_kind x.0) is in omega (arith, e))
+quiet_stays link stream made waits left (awaits put alive g gives at none is) = ap (λ (x : Next). x.1) is
 quiet_stays link stream made waits left (no_take more from reply said no_snapshot some calls is) = absurd (let e : 2 ≡ 1 = ap (λ (x : Next). frame_kind x.0) is in omega (arith, e))
 
 empty_or : (xs : List PlainStream) → (xs ≡ []) ⊎ (0 < length xs)
@@ -316,7 +320,7 @@ module _ (s : Served) where
         first : awake_of p ≡ it.stream ∷ awake_in p.quiet rest
         first = ap (awake_in p.quiet) it.order ∙ awake p.quiet it.stream rest fresh
 
-        asked_quiet : (waits : Bool) (left : PlainStream) → left ≡ it.stream → Told (next_frame p.served.end.desk.stream it.stream) more (next.Quiet waits, left)
+        asked_quiet : (waits : Waits) (left : PlainStream) → left ≡ it.stream → Told (next_frame p.served.end.desk.stream it.stream) more (next.Quiet waits, left)
             → Turns s n p0 (suc i) (made ++ more) (pull_of (stream_went left (past_turn p.served)) (with_quiet left.id waits p.quiet))
         asked_quiet waits left is tells =
             let p' : Pulling = pull_of (record p.served { end = after it.stream }) (with_quiet it.stream.id waits p.quiet) in

@@ -58,7 +58,7 @@ module _ (kind : VbCall → Type 0) (P : List Event → Type 0) (d : Desk) (asks
 
     outcomes : Outcomes AnyReply Producer f s
     outcomes = record {
-      dropped = λ is. c;
+      dropped = λ is streams. c;
       taken = λ bytes read opened. c;
       refused = λ loud st end same. refused_so st end same;
       asked = λ ask id sync reply own end read may same. asked_so ask end (log_of_reply reply) (high_of_reply reply) (verdict_with own (ask_verdict reply)) same;

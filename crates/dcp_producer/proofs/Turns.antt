@@ -18,6 +18,7 @@ use Rattle.vb_calls.specs.Programs.{Done, Turn, More, Stop, Ran, Began}
 use Rattle.vb_calls.proofs.Runs.{ran_bind, began_bind, ran_began}
 use Rattle.dcp_producer.specs.declared.next_frame.NextFrame.{NextFrame}
 use Rattle.dcp_producer.specs.declared.next_frame.NextFrame.TheVariants as next
+use Rattle.dcp_producer.specs.declared.next_frame.Waits.{Waits}
 use Rattle.dcp_producer.specs.Producers.{PlainStream, Served, Rising, ring_of, stream_of_id, without_stream}
 use Rattle.dcp_producer.specs.Frames.{next_frame}
 use Rattle.dcp_producer.specs.Wanting.{standing}
@@ -118,9 +119,9 @@ module _ (s : Served) (q : QuietOnes) (stream : PlainStream) (names : ℕ × ℕ
       ∙ ap (λ n. frame_put (dcp_frame (msg.StreamEnd reason) n.1 n.2) (event.Finished s.end.desk.stream reason) (record s { end = without_stream n.0 s.end })) is)
       ∙ sym (ap (came_as s q stream) over)
 
-  pub came_quiet : (waits : Bool) (new : QuietOnes) → what ≡ next.Quiet waits → new ≡ with_quiet names.0 waits q → More (pull_of s new) ≡ came_as s q stream what
-  came_quiet waits new idle now =
-      ap (λ t. More (pull_of s t)) (now ∙ ap (λ n. with_quiet n.0 waits q) is) ∙ sym (ap (came_as s q stream) idle)
+  pub came_quiet : (for : Waits) (new : QuietOnes) → what ≡ next.Quiet for → new ≡ with_quiet names.0 for q → More (pull_of s new) ≡ came_as s q stream what
+  came_quiet for new idle now =
+      ap (λ t. More (pull_of s t)) (now ∙ ap (λ n. with_quiet n.0 for q) is) ∙ sym (ap (came_as s q stream) idle)
 
 -- a stream is asked
 module _ {W : Type 0} (step : W → ℕ → VbCall → Option VbReply → W → Type 0) (s0 s : Served) (is : s0 ≡ s) (q : QuietOnes) (at : ℕ) (x stream : PlainStream)

@@ -31,7 +31,7 @@ module _ (f : Frame) (s : Served) where
 
   outcomes : Outcomes AnyReply (Same s) f s
   outcomes = record {
-    dropped = λ is. (refl, refl);
+    dropped = λ is streams. (refl, refl);
     taken = λ bytes read opened. (refl, refl);
     refused = λ loud st end same. sent st end same;
     asked = λ ask id sync reply own end read may same. asked ask end (log_of_reply reply) (high_of_reply reply) (verdict_with own (ask_verdict reply)) same;

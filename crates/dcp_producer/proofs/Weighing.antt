@@ -4,7 +4,7 @@ use Rattle.std.proofs.lemmas.Bool.{false_from_ne_true, eqb-true}
 use Rattle.std.proofs.lemmas.Bool.Decides.{nat_tests}
 use Rattle.std.specs.List.{list_any}
 use Rattle.std.specs.Option.{option_map}
-use Rattle.std.specs.Prelude.{if◌then◌else◌, ◌==◌}
+use Rattle.std.specs.Prelude.{if◌then◌else◌, ◌==◌, ◌&&◌, map}
 use Rattle.mcbp_frame.specs.declared.frame.Frame.{Frame}
 use Rattle.mcbp_frame.specs.declared.frame.TheConstants.{RESPONSE}
 use Rattle.mcbp_dcp.specs.declared.message.DcpFault.{DcpFault}
@@ -22,7 +22,7 @@ use Rattle.vb_types.specs.declared.status.Status.TheVariants as status
 use Rattle.vb_types.specs.Statuses.{status_code}
 use Rattle.vb_calls.specs.Programs.{Prog, Done}
 use Rattle.dcp_producer.specs.Producers.{Served}
-use Rattle.dcp_producer.specs.Serving.{status_sent, message_answered, row_answered, read_answered, frame_answered}
+use Rattle.dcp_producer.specs.Serving.{status_sent, message_answered, row_answered, read_answered, frame_answered, heard, response_heard}
 use Rattle.dcp_producer.specs.Handshaking.{Gets, Asks, IsOther, opcodes}
 use Rattle.dcp_producer.proofs.Handshaking.{refused_alone}
 
@@ -30,7 +30,7 @@ use Rattle.dcp_producer.proofs.Handshaking.{refused_alone}
 pub asked_so : (f : Frame) (s : Served) (known : Bool) → Asks f known → frame_answered f s ≡ (if known then read_answered f (read_of f) s else Done (status_sent f status.UnknownCommand s))
 unfolding frame_answered
 asked_so f s known (asks, is) =
-    ap (λ b. if b then Done s else if list_any (λ o. o == f.opcode) opcodes then read_answered f (read_of f) s else Done (status_sent f status.UnknownCommand s))
+    ap (λ b. if b then Done (response_heard f s) else if list_any (λ o. o == f.opcode) opcodes then read_answered f (read_of f) s else Done (status_sent f status.UnknownCommand s))
     (false_from_ne_true (f.magic == RESPONSE) (λ t. asks (eqb-true f.magic RESPONSE t)))
     ∙ ap (λ b. if b then read_answered f (read_of f) s else Done (status_sent f status.UnknownCommand s)) is
 
@@ -50,10 +50,32 @@ unknown_first f s asks = same_gets f status.UnknownCommand s (frame_answered f s
 pub marked_next : (f : Frame) (s : Served) → Asks f true → 0 < f.datatype → Gets 4 s.end.handshake f s (frame_answered f s)
 marked_next f s asks above = same_gets f status.Einval s (frame_answered f s) (asked_so f s true asks ∙ marked f (read_of f) s above)
 
-pub dropped : (f : Frame) (s : Served) → f.magic ≡ RESPONSE → frame_answered f s ≡ Done s
+response_is : (f : Frame) (s : Served) → f.magic ≡ RESPONSE → frame_answered f s ≡ Done (response_heard f s)
 unfolding frame_answered
-dropped f s is =
-    ap (λ n. if n == RESPONSE then Done s else if list_any (λ o. o == f.opcode) opcodes then read_answered f (read_of f) s else Done (status_sent f status.UnknownCommand s)) is
+response_is f s is =
+    ap (λ n. if n == RESPONSE then Done (response_heard f s) else if list_any (λ o. o == f.opcode) opcodes then read_answered f (read_of f) s else Done (status_sent f status.UnknownCommand s)) is
+
+pub taken_heard : (f : Frame) (s : Served) → f.magic ≡ RESPONSE → f.opcode ≡ 0x5b → f.vb_or_status ≡ 0
+    → frame_answered f s ≡ Done (record s { end = record s.end { streams = map (heard f.opaque) s.end.streams } })
+taken_heard f s is opcode success =
+    let one : (f.opcode == 0x5b) ≡ true = grind (arith, nat_tests, opcode) in
+    let two : (f.vb_or_status == 0) ≡ true = grind (arith, nat_tests, success) in
+    response_is f s is ∙ (λ i. Done (if one i && two i then record s { end = record s.end { streams = map (heard f.opaque) s.end.streams } } else s))
+
+pub other_dropped : (f : Frame) (s : Served) → f.magic ≡ RESPONSE → f.opcode ≢ 0x5b → frame_answered f s ≡ Done s
+other_dropped f s is other =
+    let none : (f.opcode == 0x5b) ≡ false = false_from_ne_true (f.opcode == 0x5b) (λ t. other (eqb-true f.opcode 0x5b t)) in
+    response_is f s is ∙ ap (λ b. Done (if b && f.vb_or_status == 0 then record s { end = record s.end { streams = map (heard f.opaque) s.end.streams } } else s)) none
+
+pub failed_dropped : (f : Frame) (s : Served) → f.magic ≡ RESPONSE → f.vb_or_status ≢ 0 → frame_answered f s ≡ Done s
+failed_dropped f s is other =
+    let none : (f.vb_or_status == 0) ≡ false = false_from_ne_true (f.vb_or_status == 0) (λ t. other (eqb-true f.vb_or_status 0 t)) in
+    response_is f s is ∙ ap (λ b. Done (if f.opcode == 0x5b && b then record s { end = record s.end { streams = map (heard f.opaque) s.end.streams } } else s)) none
+    ∙ by (f.opcode == 0x5b)
+  where
+    by : (b : Bool) → ◌≡◌ {A = Prog Served} (Done (if b && false then record s { end = record s.end { streams = map (heard f.opaque) s.end.streams } } else s)) (Done s)
+    by true = refl
+    by false = refl
 
 module _ (f : Frame) (s : Served) where
   abbrev pub Einval : Prog Served

@@ -1,5 +1,5 @@
 -- a pull that asks everybody: for each frame each stream is asked anew, also one that put none before, in words beside the definitions
-use Rattle.std.specs.Prelude.{ℕ, zero, suc, ◌≡◌, ◌≢◌, ◌==◌, ◌||◌, Bool, false, if◌then◌else◌, List, [], ◌∷◌, Option, Some, None}
+use Rattle.std.specs.Prelude.{ℕ, zero, suc, ◌≡◌, ◌≢◌, ◌==◌, if◌then◌else◌, List, [], ◌∷◌, Option, Some, None}
 use Rattle.mcbp_dcp.specs.DcpFrames.{dcp_frame}
 use Rattle.vb_events.specs.declared.event.StreamName.{StreamName}
 use Rattle.vb_calls.specs.States.{States}
@@ -8,9 +8,11 @@ use Rattle.flow_control.specs.Windows.{is_open}
 use Rattle.dcp_producer.specs.declared.halt.Halt.{Halt}
 use Rattle.dcp_producer.specs.declared.halt.Halt.TheVariants as halt
 use Rattle.dcp_producer.specs.declared.next_frame.NextFrame.TheVariants as next
+use Rattle.dcp_producer.specs.declared.next_frame.Waits.{Waits}
+use Rattle.dcp_producer.specs.declared.next_frame.Waits.TheVariants as waits
 use Rattle.dcp_producer.specs.Frames.{Next, next_frame}
 use Rattle.dcp_producer.specs.Producers.{PlainStream, Served}
-use Rattle.dcp_producer.specs.Pulling.{end_put, frame_put, frames_put, stream_went}
+use Rattle.dcp_producer.specs.Pulling.{end_put, first_wait, frame_put, frames_put, halt_of, stream_went}
 use Rattle.dcp_producer.specs.Turns.{turns_of}
 
 -- the place behind the stream of a number, in the order in which they were opened
@@ -26,16 +28,16 @@ turn_behind stream s = record s { end = record s.end { turn = place_behind strea
 abbrev pub Tries : Type 0
 Tries = Prog (Served × Option Halt)
 
--- a stream that was asked goes on: its frame, or its end, is put, and nobody else is asked for this one; or it has none now, and those behind it are asked, who are told whether one waits so far
-abbrev pub answered : Next → Bool → Served → (Bool → Served → Tries) → Tries
-answered (next.Put m line, left) waits s behind = Done (frame_put (dcp_frame m left.opaque left.vb) line (stream_went left s), None)
-answered (next.End reason, left) waits s behind = Done (end_put left reason (stream_went left s), None)
-answered (next.Quiet saves, left) waits s behind = behind (waits || saves) (stream_went left s)
+-- a stream that was asked goes on: its frame, or its end, is put, and nobody else is asked for this one; or it has none now, and those behind it are asked, who are told what those so far wait for
+abbrev pub answered : Next → Waits → Served → (Waits → Served → Tries) → Tries
+answered (next.Put m line, left) for s behind = Done (frame_put (dcp_frame m left.opaque left.vb) line (stream_went left s), None)
+answered (next.End reason, left) for s behind = Done (end_put left reason (stream_went left s), None)
+answered (next.Quiet also, left) for s behind = behind (first_wait for also) (stream_went left s)
 
--- these streams are asked for one frame, one after the other, until one puts it; where none does, that is since one of them waits for what is to be saved, or they have none
-abbrev pub each_asked : List PlainStream → Bool → Served → Tries
-each_asked [] waits s = Done (s, Some (if waits then halt.WaitSaved else halt.Idle))
-each_asked (stream ∷ more) waits s = bind (next_frame s.end.desk.stream stream) (λ next. answered next waits (turn_behind stream s) (λ waits' s'. each_asked more waits' s'))
+-- these streams are asked for one frame, one after the other, until one puts it; where none does, that is since one of them waits for the answer to a state, or next for what is to be saved, or they have none
+abbrev pub each_asked : List PlainStream → Waits → Served → Tries
+each_asked [] for s = Done (s, Some (halt_of for))
+each_asked (stream ∷ more) for s = bind (next_frame s.end.desk.stream stream) (λ next. answered next for (turn_behind stream s) (λ for' s'. each_asked more for' s'))
 
 -- a frame was put, and the pull goes on, or none was, and it ends
 abbrev pub tried : (Served → Prog (Served × Halt)) → Served × Option Halt → Prog (Served × Halt)
@@ -45,7 +47,7 @@ tried on (s, Some halted) = Done (s, halted)
 -- a pull of so many frames: for each one the window first, and then everybody in turn, from the stream behind that of the last turn
 abbrev pub all_asked : ℕ → Served → Prog (Served × Halt)
 all_asked zero s = Done (s, halt.All)
-all_asked (suc k) s = if is_open s.end.window then bind (each_asked (turns_of s.end) false s) (tried (λ s'. all_asked k s')) else Done (s, halt.Full)
+all_asked (suc k) s = if is_open s.end.window then bind (each_asked (turns_of s.end) waits.Nothing s) (tried (λ s'. all_asked k s')) else Done (s, halt.Full)
 
 -- over plain vBuckets it makes no difference that a pull does not ask again who was quiet: the same frames go out, with the same lines, the same connection and the same vBuckets are left, and it says the same of why no more was put
 abbrev pub IsAsIfAllAsked : ℕ → Served → States → Type 0
@@ -53,7 +55,7 @@ IsAsIfAllAsked k s states = after (frames_put k s) states ≡ after (all_asked k
 
 -- the reasons: a stream that is quiet leaves its vBucket, all others and itself as they are, and asked again it is quiet in the same way as long as its own vBucket is the same; and whatever a stream's turn comes to, it changes no other vBucket
 pub record StaysQuiet (name : StreamName) (stream : PlainStream) (states : States) : Type 0 where
-  pub still : (waits : Bool) (behind : States) (left : PlainStream) → after (next_frame name stream) states ≡ (behind, (next.Quiet waits, left)) → (behind ≡ states) × (left ≡ stream)
-  pub again : (waits : Bool) (behind : States) (left : PlainStream) → after (next_frame name stream) states ≡ (behind, (next.Quiet waits, left))
-      → (now : States) → now stream.vb ≡ states stream.vb → after (next_frame name stream) now ≡ (now, (next.Quiet waits, stream))
+  pub still : (for : Waits) (behind : States) (left : PlainStream) → after (next_frame name stream) states ≡ (behind, (next.Quiet for, left)) → (behind ≡ states) × (left ≡ stream)
+  pub again : (for : Waits) (behind : States) (left : PlainStream) → after (next_frame name stream) states ≡ (behind, (next.Quiet for, left))
+      → (now : States) → now stream.vb ≡ states stream.vb → after (next_frame name stream) now ≡ (now, (next.Quiet for, stream))
   pub apart : (v : ℕ) → v ≢ stream.vb → (after (next_frame name stream) states).0 v ≡ states v

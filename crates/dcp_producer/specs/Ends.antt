@@ -1,5 +1,7 @@
 -- why a stream is over, and why it is quiet, in words beside the definitions
-use Rattle.std.specs.Prelude.{ℕ, ◌≤◌, ◌≡◌, ◌⊎◌, ◌↔◌, true, false, List, [], ◌∷◌, length, Option, Some}
+use Rattle.std.specs.Prelude.{ℕ, ◌≤◌, ◌≡◌, ◌⊎◌, ◌↔◌, true, false, List, [], ◌∷◌, length, Option, Some, None}
+use Rattle.takeover.specs.Laws.{at}
+use Rattle.takeover.specs.declared.give_up.GiveUp.{GiveUp}
 use Rattle.mcbp_dcp.specs.declared.message.DcpMsg.TheVariants as msg
 use Rattle.vb_events.specs.declared.event.Event.{Event}
 use Rattle.vb_types.specs.declared.stream.Place.{Place}
@@ -12,6 +14,7 @@ use Rattle.vb_calls.specs.declared.calls.VbReply.{VbReply}
 use Rattle.vb_calls.specs.Programs.{Made}
 use Rattle.dcp_producer.specs.declared.next_frame.NextFrame.{NextFrame}
 use Rattle.dcp_producer.specs.declared.next_frame.NextFrame.TheVariants as next
+use Rattle.dcp_producer.specs.declared.next_frame.Waits.TheVariants as waits
 use Rattle.dcp_producer.specs.Producers.{PlainStream}
 use Rattle.dcp_producer.specs.Endings.{calls_in}
 
@@ -23,15 +26,19 @@ IsBehind stream = length stream.items ≤ stream.next
 abbrev pub Reaches : PlainStream → Type 0
 Reaches stream = (end : ℕ) × (stream.marked ≡ Some end) × (stream.until ≤ end)
 
+-- the stream gives its vBucket up, and is at the step of this number: 1 it sends all there is, 2 the state pending, 3 it waits for the answer, 4 for its vBucket to be given up, 5 it sends the rest, 6 the state active, 7 it waits for the answer, and 8 it ends
+abbrev pub IsAt : ℕ → PlainStream → Type 0
+IsAt n stream = (g : GiveUp) × (stream.gives ≡ Some g) × (at g ≡ n)
+
 -- the vBucket is there, and answered so
 abbrev pub IsSaid : Option VbReply → VbAnswer → Type 0
 IsSaid reply a = (r : VbReply) × (reply ≡ Some r) × (r.answer ≡ a)
 
--- no end is due behind the items: no change of role ended the stream, and its last marker does not reach the end that was asked for
+-- behind the items the stream's vBucket is to be asked: no change of role ended the stream; and it gives no vBucket up and its last marker does not reach the end that was asked for, or it gives one up and is in the first or the fifth step, whatever end was asked for
 pub record AsksOn (stream : PlainStream) : Type 0 where
   pub behind : IsBehind stream
   pub alive : stream.ended ≡ false
-  pub below : Reaches stream → ⊥
+  pub below : ((stream.gives ≡ None) × (Reaches stream → ⊥)) ⊎ IsAt 1 stream ⊎ IsAt 5 stream
 
 -- its vBucket was asked once, where its next changes come from, with this reply
 abbrev pub AskedPlace : PlainStream → List Made → Option VbReply → Type 0
@@ -48,15 +55,16 @@ IsLost stream made =
     ((reply : Option VbReply) × AskedPlace stream made reply × ((from : Place) → IsSaid reply (answer.Placed from) → ⊥))
     ⊎ ((reply : Option VbReply) × AskedTake stream made reply × ((snapshot : Snapshot) → IsSaid reply (answer.Taken snapshot) → ⊥) × (IsSaid reply answer.Nothing → ⊥))
 
--- a stream is over with reason 0 exactly where, behind its items, no change of role ended it and its last marker reaches the end that was asked for, and then alone it is closed at its vBucket; with reason 2 exactly where, behind its items, a change of role ended it, or else its vBucket lost it; and for no other reason. No marker comes behind a snapshot that reached the end
+-- a stream is over with reason 0 exactly where, behind its items, no change of role ended it, and it gives no vBucket up and its last marker reaches the end that was asked for, or it gives one up and is in the eighth step; and then alone it is closed at its vBucket; with reason 2 exactly where, behind its items, a change of role ended it, or else its vBucket lost it; and for no other reason. No marker comes behind a snapshot that reached the end
 pub record EndsSo (stream : PlainStream) (made : List Made) (comes : NextFrame) : Type 0 where
-  pub sent : (comes ≡ next.End 0) ↔ (IsBehind stream × (stream.ended ≡ false) × Reaches stream)
+  pub sent : (comes ≡ next.End 0) ↔ (IsBehind stream × (stream.ended ≡ false) × (((stream.gives ≡ None) × Reaches stream) ⊎ IsAt 8 stream))
   pub over : (comes ≡ next.End 2) ↔ (IsBehind stream × ((stream.ended ≡ true) ⊎ (AsksOn stream × IsLost stream made)))
   pub only : (reason : ℕ) → comes ≡ next.End reason → (reason ≡ 0) ⊎ (reason ≡ 2)
   pub closed : (comes ≡ next.End 0) ↔ (calls_in made ≡ (stream.vb, call.CloseStream stream.id) ∷ [])
   pub marked : (start end flags : ℕ) (line : Event) → comes ≡ next.Put (msg.SnapshotMarker start end flags) line → AsksOn stream
 
--- a stream is quiet exactly where no end is due behind its items, and its vBucket says that the changes are to be saved first, or that there is no snapshot yet; it waits exactly in the first case
+-- a stream is quiet exactly where its vBucket is asked behind its items and says that the changes are to be saved first, for which it waits then, or, to one that gives no vBucket up, that there is no snapshot yet; and, without a call, where it gives its vBucket up and is in the third, the fourth or the seventh step, in which it waits for its state's answer
 pub record IsQuietSo (stream : PlainStream) (made : List Made) (comes : NextFrame) : Type 0 where
-  pub waits : (comes ≡ next.Quiet true) ↔ (AsksOn stream × ((reply : Option VbReply) × IsSaid reply (answer.Placed place.WaitSaved) × AskedPlace stream made reply))
-  pub none : (comes ≡ next.Quiet false) ↔ (AsksOn stream × ((reply : Option VbReply) × IsSaid reply answer.Nothing × AskedTake stream made reply))
+  pub saves : (comes ≡ next.Quiet waits.Saved) ↔ (AsksOn stream × ((reply : Option VbReply) × IsSaid reply (answer.Placed place.WaitSaved) × AskedPlace stream made reply))
+  pub none : (comes ≡ next.Quiet waits.Nothing) ↔ ((stream.gives ≡ None) × AsksOn stream × ((reply : Option VbReply) × IsSaid reply answer.Nothing × AskedTake stream made reply))
+  pub states : (comes ≡ next.Quiet waits.State) ↔ (IsBehind stream × (stream.ended ≡ false) × (IsAt 3 stream ⊎ IsAt 4 stream ⊎ IsAt 7 stream))

@@ -1,5 +1,5 @@
 -- the next frame of a stream, as a program over its node's vBuckets
-use Rattle.std.specs.Prelude.{ℕ, ◌+◌, max, Bool, true, false, if◌then◌else◌, nat_le, [], slice_get, Option, Some, None}
+use Rattle.std.specs.Prelude.{ℕ, ◌+◌, max, Bool, false, true, if◌then◌else◌, nat_le, [], slice_get, Option, Some, None}
 use Rattle.mcbp_dcp.specs.declared.message.DcpMsg.{DcpMsg}
 use Rattle.mcbp_dcp.specs.declared.message.DcpMsg.TheVariants as msg
 use Rattle.mcbp_dcp.specs.declared.message.Resolution.{Resolution}
@@ -10,6 +10,12 @@ use Rattle.vb_types.specs.declared.change.Act.TheVariants as act
 use Rattle.vb_types.specs.declared.change.Change.{Change}
 use Rattle.vb_types.specs.declared.change.Level.{Level}
 use Rattle.vb_types.specs.declared.doc.Doc.{Doc}
+use Rattle.vb_types.specs.declared.role.Role.{Role}
+use Rattle.vb_types.specs.declared.role.Role.TheVariants as role
+use Rattle.takeover.specs.GivingUp.{done}
+use Rattle.takeover.specs.declared.give_up.GiveStep.{GiveStep}
+use Rattle.takeover.specs.declared.give_up.GiveStep.TheVariants as step
+use Rattle.takeover.specs.declared.give_up.GiveUp.{GiveUp}
 use Rattle.vb_events.specs.declared.event.Event.{Event}
 use Rattle.vb_events.specs.declared.event.Event.TheVariants as event
 use Rattle.vb_events.specs.declared.event.ItemAct.{ItemAct}
@@ -25,6 +31,8 @@ use Rattle.vb_calls.specs.declared.calls.VbReply.{VbReply}
 use Rattle.vb_calls.specs.Programs.{Prog, Done, Call}
 use Rattle.dcp_producer.specs.declared.next_frame.NextFrame.{NextFrame}
 use Rattle.dcp_producer.specs.declared.next_frame.NextFrame.TheVariants as next
+use Rattle.dcp_producer.specs.declared.next_frame.Waits.{Waits}
+use Rattle.dcp_producer.specs.declared.next_frame.Waits.TheVariants as waits
 use Rattle.dcp_producer.specs.Producers.{PlainStream}
 
 -- a flag as a number
@@ -123,14 +131,39 @@ STATE_CHANGED = 2
 abbrev pub over : ℕ → PlainStream → Next
 over reason stream = (next.End reason, stream)
 
--- there is nothing to put now; `waits` where the next changes are to be saved first
-abbrev pub quiet : Bool → PlainStream → Next
-quiet waits stream = (next.Quiet waits, stream)
+-- there is nothing to put now, and this is waited for
+abbrev pub quiet : Waits → PlainStream → Next
+quiet for stream = (next.Quiet for, stream)
 
--- the snapshot of an answer; none where there is none yet. A vBucket that knows nothing of the stream ends it
+-- the role that a step tells the consumer's vBucket to have next, where it tells one
+abbrev pub role_of : GiveStep → Option Role
+role_of step.SendAll = None
+role_of step.SendPending = Some role.Pending
+role_of step.AwaitPending = None
+role_of step.Yield = None
+role_of step.SendRest = None
+role_of step.SendActive = Some role.Active
+role_of step.AwaitActive = None
+role_of step.End = None
+
+-- a state is put, which ends its step
+abbrev pub state_put : StreamName → PlainStream → GiveUp → Role → Next
+state_put name stream g told = (next.Put (msg.SetVbucketState told) (event.Stated name told), record stream { gives = Some (done g) })
+
+-- the state of a step that tells one; in any other the stream waits for the answer to one, or behind it until its vBucket is given up
+abbrev pub state_next : StreamName → PlainStream → GiveUp → Option Role → Next
+state_next name stream g (Some told) = state_put name stream g told
+state_next name stream g None = quiet waits.State stream
+
+-- there is no snapshot yet; for a stream that gives its vBucket up this ends the step, and the next one has its turn at once
+abbrev pub none_next : StreamName → PlainStream → Option GiveUp → Next
+none_next name stream None = quiet waits.Nothing stream
+none_next name stream (Some g) = state_next name stream (done g) (role_of (done g).step)
+
+-- the snapshot of an answer, or none where there is none yet. A vBucket that knows nothing of the stream ends it
 abbrev pub taken_next : StreamName → PlainStream → VbAnswer → Next
 taken_next name stream (answer.Taken snapshot) = marker_next name stream snapshot
-taken_next name stream answer.Nothing = quiet false stream
+taken_next name stream answer.Nothing = none_next name stream stream.gives
 taken_next name stream other = over STATE_CHANGED stream
 
 -- what a reply to a take comes to
@@ -155,7 +188,7 @@ place_said (Some reply) = place_told reply.answer
 -- by that place: the next snapshot is taken, or the changes are to be saved first; a stream that its vBucket lost is over
 abbrev pub placed_next : StreamName → PlainStream → Option Place → Prog Next
 placed_next name stream (Some place.Memory) = take_requested name stream
-placed_next name stream (Some place.WaitSaved) = Done (quiet true stream)
+placed_next name stream (Some place.WaitSaved) = Done (quiet waits.Saved stream)
 placed_next name stream None = Done (over STATE_CHANGED stream)
 
 -- the vBucket is asked where the stream's next changes come from
@@ -171,12 +204,25 @@ reaches_end until (Some end) = nat_le until end
 abbrev pub close_sent : PlainStream → Prog Next
 close_sent stream = Call stream.vb (call.CloseStream stream.id) (λ reply. Done (over ALL_SENT stream))
 
--- behind the items: the end of a stream that a change of role ended, or that reached the end that was asked for, and else the next snapshot's marker
+-- what a stream that gives its vBucket up puts in a step: the snapshots that there are, a state, or its end; in the other steps it waits
+abbrev pub step_next : StreamName → PlainStream → GiveUp → GiveStep → Prog Next
+step_next name stream g step.SendAll = place_requested name stream
+step_next name stream g step.SendPending = Done (state_next name stream g (role_of step.SendPending))
+step_next name stream g step.AwaitPending = Done (state_next name stream g (role_of step.AwaitPending))
+step_next name stream g step.Yield = Done (state_next name stream g (role_of step.Yield))
+step_next name stream g step.SendRest = place_requested name stream
+step_next name stream g step.SendActive = Done (state_next name stream g (role_of step.SendActive))
+step_next name stream g step.AwaitActive = Done (state_next name stream g (role_of step.AwaitActive))
+step_next name stream g step.End = close_sent stream
+
+-- what a stream puts that no change of role ended: its end where it reached the end that was asked for, and else the next snapshot's marker; of one that gives its vBucket up, what its step says, whatever end was asked for
+abbrev pub alive_next : StreamName → PlainStream → Option GiveUp → Prog Next
+alive_next name stream None = if reaches_end stream.until stream.marked then close_sent stream else place_requested name stream
+alive_next name stream (Some g) = step_next name stream g g.step
+
+-- behind the items: the end of a stream that a change of role ended, also of one that gives its vBucket up, and else what comes next
 abbrev pub more_next : StreamName → PlainStream → Prog Next
-more_next name stream =
-    if stream.ended then Done (over STATE_CHANGED stream)
-    else if reaches_end stream.until stream.marked then close_sent stream
-    else place_requested name stream
+more_next name stream = if stream.ended then Done (over STATE_CHANGED stream) else alive_next name stream stream.gives
 
 -- the next item of the snapshot that was taken last, and what comes behind the last one
 abbrev pub next_by : StreamName → PlainStream → Option Change → Prog Next

@@ -5,6 +5,7 @@ use Rattle.mcbp_frame.specs.declared.frame.Frame.{Frame}
 use Rattle.mcbp_dcp.specs.declared.message.DcpMsg.{DcpMsg}
 use Rattle.mcbp_dcp.specs.declared.message.DcpMsg.TheVariants as msg
 use Rattle.vb_types.specs.declared.change.Change.{Change}
+use Rattle.vb_types.specs.declared.role.Role.{Role}
 use Rattle.vb_types.specs.declared.stream.Snapshot.{Snapshot}
 use Rattle.vb_events.specs.declared.event.Event.{Event}
 use Rattle.vb_events.specs.declared.event.Event.TheVariants as event
@@ -31,13 +32,14 @@ use Rattle.dcp_producer.specs.Turns.{Tried, put_by}
 abbrev pub IsLarger : ℕ → ℕ → ℕ → Type 0
 IsLarger a b n = ((b ≤ a) × (n ≡ a)) ⊎ ((a < b) × (n ≡ b))
 
--- how a stream goes on: behind an item, which needs no call, one item further; behind the last one, where no end is due, its vBucket is asked first where the next changes come from; a marker is that of the snapshot that it gave then, whose items begin; and a stream that is quiet or over stays as it was
+-- how a stream goes on: behind an item, which needs no call, one item further; behind the last one, where no end is due, its vBucket is asked first where the next changes come from; a marker is that of the snapshot that it gave then, whose items begin; behind a state all but how far the stream gives its vBucket up is as it was; and a stream that is quiet or over stays as it was
 pub record FollowsSo (stream : PlainStream) (made : List Made) (comes : NextFrame) (left : PlainStream) : Type 0 where
   pub item : (c : Change) → IsNext stream c → (made ≡ []) × (left ≡ record stream { next = stream.next + 1; reached = left.reached })
   pub asks : AsksOn stream → (more : List (ℕ × VbCall)) × (calls_in made ≡ (stream.vb, call.Place stream.id) ∷ more)
   pub marker : (start end flags : ℕ) (line : Event) → comes ≡ next.Put (msg.SnapshotMarker start end flags) line
       → (snapshot : Snapshot) × (reply : Option VbReply) × AskedTake stream made reply × IsSaid reply (answer.Taken snapshot)
       × (start ≡ snapshot.start) × (end ≡ snapshot.end) × (left ≡ record stream { items = snapshot.items; next = 0; marked = Some snapshot.end })
+  pub state : (told : Role) (line : Event) → comes ≡ next.Put (msg.SetVbucketState told) line → left ≡ record stream { gives = left.gives }
   pub still : IsOut comes → left ≡ stream
 
 -- what the consumer of a stream may have: behind an item up to its seqno, if that is greater, and behind anything else what it might before
@@ -45,7 +47,7 @@ pub record ReachesSo (stream : PlainStream) (comes : NextFrame) (left : PlainStr
   pub item : (name : StreamName) (m : DcpMsg) (seq : ℕ) (sent : ItemAct) (key : List ℕ) → comes ≡ next.Put m (event.Item name seq sent key) → IsLarger stream.reached seq left.reached
   pub else : ((name : StreamName) (m : DcpMsg) (seq : ℕ) (sent : ItemAct) (key : List ℕ) → comes ≡ next.Put m (event.Item name seq sent key) → ⊥) → left.reached ≡ stream.reached
 
--- a frame of this connection's stream and the line that tells of it, by the opcode: a marker, a stored document, a removal, a prepare, a commit, an abort, or the stream's end
+-- a frame of this connection's stream and the line that tells of it, by the opcode: a marker, a stored document, a removal, a prepare, a commit, an abort, a state, or the stream's end
 abbrev pub TellsOf : StreamName → Frame → Event → Type 0
 TellsOf name f (event.Marked stream start end flags) = (stream ≡ name) × (f.opcode ≡ 0x56)
 TellsOf name f (event.Item stream seq item_act.Set key) = (stream ≡ name) × (f.opcode ≡ 0x57)
@@ -53,6 +55,7 @@ TellsOf name f (event.Item stream seq item_act.Remove key) = (stream ≡ name) �
 TellsOf name f (event.Item stream seq item_act.Prepare key) = (stream ≡ name) × (f.opcode ≡ 0x60)
 TellsOf name f (event.Item stream seq item_act.Commit key) = (stream ≡ name) × (f.opcode ≡ 0x62)
 TellsOf name f (event.Item stream seq item_act.Abort key) = (stream ≡ name) × (f.opcode ≡ 0x63)
+TellsOf name f (event.Stated stream told) = (stream ≡ name) × (f.opcode ≡ 0x5b)
 TellsOf name f (event.Finished stream reason) = (stream ≡ name) × (f.opcode ≡ 0x55)
 TellsOf name f other = ⊥
 

@@ -3,6 +3,7 @@ use Rattle.std.specs.Prelude.{ℕ, ◌+◌, ◌*◌, ◌≤◌, ◌≡◌, ◌�
 use Rattle.std.specs.List.{All}
 use Rattle.dcp_producer.specs.declared.desk.Handshake.TheVariants as handshake
 use Rattle.dcp_producer.specs.declared.halt.Halt.{Halt}
+use Rattle.dcp_producer.specs.Giving.{Yields}
 use Rattle.dcp_producer.specs.Producers.{PlainStream, PlainProducer, Rising, Served}
 
 -- the connection is open
@@ -37,9 +38,12 @@ pub record IsSound (end : PlainProducer) : Type 0 where
   pub numbered : All (λ stream. stream.id ≤ end.desk.base * 4294967296 + end.asked) end.streams
   pub turn : end.turn ≤ length end.streams
 
--- so it is behind an answer, and behind a pull
+-- so it is behind an answer, behind a pull, and where vBuckets were given up
 abbrev pub AnswersSound : Served → Type 0
 AnswersSound s = IsSound s.end
 
 abbrev pub PullsSound : Served × Halt → Type 0
 PullsSound (s, halted) = IsSound s.end
+
+abbrev pub YieldsSound : Yields → Type 0
+YieldsSound came = IsSound came.end

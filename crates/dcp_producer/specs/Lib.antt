@@ -4,6 +4,7 @@ pub mod Serving
 pub mod Frames
 pub mod Pulling
 pub mod Ending
+pub mod Giving
 pub mod Wanting
 pub mod Handshaking
 pub mod Having
@@ -18,6 +19,8 @@ pub mod Endings
 pub mod Ends
 pub mod Taking
 pub mod Pulls
+pub mod Takeovers
+pub mod Moves
 pub mod Going
 pub mod Apart
 pub mod Orders

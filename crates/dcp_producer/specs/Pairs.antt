@@ -6,6 +6,8 @@ use Rattle.mcbp_frame.specs.declared.frame.Frame.{Frame}
 use Rattle.mcbp_dcp.specs.DcpFrames.{IsSpelled, dcp_frame}
 use Rattle.mcbp_dcp.specs.declared.message.DcpMsg.TheVariants as msg
 use Rattle.vb_types.specs.declared.change.Change.{Change}
+use Rattle.vb_types.specs.declared.role.Role.{Role}
+use Rattle.vb_types.specs.declared.role.Role.TheVariants as role
 use Rattle.vb_events.specs.declared.event.Event.{Event}
 use Rattle.vb_events.specs.declared.event.Event.TheVariants as event
 use Rattle.vb_events.specs.declared.event.StreamName.{StreamName}
@@ -33,6 +35,12 @@ IsMark G name (f, line) =
     (stream : PlainStream) × G stream × (start : ℕ) × (end : ℕ) × (flags : ℕ)
     × (f ≡ dcp_frame (msg.SnapshotMarker start end flags) stream.opaque stream.vb) × (line ≡ event.Marked name start end flags)
 
+-- a state, pending or active: the line has its role
+abbrev pub IsState : (PlainStream → Type 0) → StreamName → Frame × Event → Type 0
+IsState G name (f, line) =
+    (stream : PlainStream) × G stream × (told : Role) × ((told ≡ role.Pending) ⊎ (told ≡ role.Active))
+    × (f ≡ dcp_frame (msg.SetVbucketState told) stream.opaque stream.vb) × (line ≡ event.Stated name told)
+
 -- the end of a stream: the line has its reason
 abbrev pub IsOver : (PlainStream → Type 0) → StreamName → Frame × Event → Type 0
 IsOver G name (f, line) =
@@ -41,7 +49,7 @@ IsOver G name (f, line) =
 
 -- one of these, of such a stream
 abbrev pub IsPair : (PlainStream → Type 0) → StreamName → Frame × Event → Type 0
-IsPair G name pair = IsItem G name pair ⊎ IsMark G name pair ⊎ IsOver G name pair
+IsPair G name pair = IsItem G name pair ⊎ IsMark G name pair ⊎ IsOver G name pair ⊎ IsState G name pair
 
 -- ---- a pull
 

@@ -5,6 +5,7 @@ use Rattle.vb_types.specs.declared.change.Change.{Change}
 use Rattle.vb_events.specs.declared.event.Event.{Event}
 use Rattle.vb_events.specs.declared.event.StreamName.{StreamName}
 use Rattle.vb_events.specs.declared.event.StreamName.TheVariants as name
+use Rattle.takeover.specs.declared.give_up.GiveUp.{GiveUp}
 use Rattle.dcp_producer.specs.declared.active_stream.StreamState.{StreamState}
 use Rattle.dcp_producer.specs.declared.active_stream.StreamState.TheVariants as state
 use Rattle.dcp_producer.specs.declared.desk.Desk.{Desk}
@@ -22,7 +23,7 @@ abbrev pub is_ended : StreamState → Bool
 is_ended state.Memory = false
 is_ended state.Ended = true
 
--- a stream: the number under which its vBucket opened it, of which vBucket it is, with which opaque its frames go, the end that its consumer asked for; the snapshot that was taken last, how many of its items have been put, and the END of its marker, if any was sent; the last seqno that its consumer may have (the requested start, or that of the last item that was put where it is greater), and whether a change of role ended it
+-- a stream: the number under which its vBucket opened it, of which vBucket it is, with which opaque its frames go, the end that its consumer asked for; the snapshot that was taken last, how many of its items have been put, and the END of its marker, if any was sent; the last seqno that its consumer may have (the requested start, or that of the last item that was put where it is greater), whether a change of role ended it, and, of one that gives its vBucket up to its consumer's, how far that is
 pub record PlainStream : Type 0 where
   pub id : ℕ
   pub vb : ℕ
@@ -33,6 +34,7 @@ pub record PlainStream : Type 0 where
   pub marked : Option ℕ
   pub reached : ℕ
   pub ended : Bool
+  pub gives : Option GiveUp
 
 -- a producer: how many streams it asked vBuckets to open, those that are open, in the order in which they were opened, the place behind the one that had the last turn, and the window through which their frames go
 pub record PlainProducer : Type 0 where

@@ -1,5 +1,5 @@
 -- how a producer puts the frames of its streams, in turn and through its window, as programs over its node's vBuckets
-use Rattle.std.specs.Prelude.{ℕ, ◌≡◌, ◌+◌, ◌==◌, ◌||◌, Bool, true, false, if◌then◌else◌, List, [], ◌∷◌, ◌++◌, length, Option, Some, None}
+use Rattle.std.specs.Prelude.{ℕ, ◌≡◌, ◌+◌, ◌==◌, Bool, true, false, if◌then◌else◌, List, [], ◌∷◌, ◌++◌, length, Option, Some, None}
 use Rattle.std.specs.List.{list_any}
 use Rattle.mcbp_dcp.specs.declared.message.DcpMsg.TheVariants as msg
 use Rattle.mcbp_frame.specs.declared.frame.Frame.{Frame}
@@ -15,15 +15,18 @@ use Rattle.dcp_producer.specs.declared.halt.Halt.{Halt}
 use Rattle.dcp_producer.specs.declared.halt.Halt.TheVariants as halt
 use Rattle.dcp_producer.specs.declared.next_frame.NextFrame.{NextFrame}
 use Rattle.dcp_producer.specs.declared.next_frame.NextFrame.TheVariants as next
+use Rattle.dcp_producer.specs.declared.next_frame.Waits.{Waits}
+use Rattle.dcp_producer.specs.declared.next_frame.Waits.TheVariants as waits
 use Rattle.dcp_producer.specs.Producers.{PlainStream, PlainProducer, Served, ring_of, stream_of_id, with_stream, with_turn, without_stream}
 use Rattle.dcp_producer.specs.Frames.{Next, next_frame}
 use Rattle.flow_control.specs.Rings.{next_id}
 
--- why no more was put, as the line says it: that all were that were asked for, that there was no more, that the window is shut, or that a stream waits
+-- why no more was put, as the line says it: that all were that were asked for, that there was no more, that the window is shut, or what a stream waits for
 abbrev pub why_of : Halt → Why
 why_of halt.All = why.All
 why_of halt.Idle = why.Idle
 why_of halt.Full = why.Full
+why_of halt.WaitState = why.WaitState
 why_of halt.WaitSaved = why.WaitSaved
 
 -- a frame is on its way, with the line that tells of it: it is counted, and its whole length is outstanding then
@@ -45,26 +48,40 @@ abbrev pub end_put : PlainStream → ℕ → Served → Served
 end_put stream reason s =
     frame_put (dcp_frame (msg.StreamEnd reason) stream.opaque stream.vb) (event.Finished s.end.desk.stream reason) (record s { end = without_stream stream.id s.end })
 
--- the streams that put nothing when they were asked in a pull, and whether one of them waits for what is to be saved
+-- what two streams wait for, as a pull says it: that of the answer to a state comes first, and next that of what is to be saved
+abbrev pub first_wait : Waits → Waits → Waits
+first_wait waits.Nothing other = other
+first_wait waits.Saved waits.Nothing = waits.Saved
+first_wait waits.Saved waits.Saved = waits.Saved
+first_wait waits.Saved waits.State = waits.State
+first_wait waits.State other = waits.State
+
+-- the streams that put nothing when they were asked in a pull, and what they wait for
 pub record QuietOnes : Type 0 where
   pub ids : List ℕ
-  pub waits : Bool
+  pub waits : Waits
 
 -- none
 abbrev pub none_quiet : QuietOnes
-none_quiet = record { ids = []; waits = false }
+none_quiet = record { ids = []; waits = waits.Nothing }
 
 -- one more
-abbrev pub with_quiet : ℕ → Bool → QuietOnes → QuietOnes
-with_quiet id waits q = record { ids = q.ids ++ id ∷ []; waits = q.waits || waits }
+abbrev pub with_quiet : ℕ → Waits → QuietOnes → QuietOnes
+with_quiet id for q = record { ids = q.ids ++ id ∷ []; waits = first_wait q.waits for }
 
 -- a stream was quiet before
 abbrev pub is_quiet : ℕ → QuietOnes → Bool
 is_quiet id q = list_any (λ other. other == id) q.ids
 
+-- why no more is put where streams wait for this
+abbrev pub halt_of : Waits → Halt
+halt_of waits.Nothing = halt.Idle
+halt_of waits.Saved = halt.WaitSaved
+halt_of waits.State = halt.WaitState
+
 -- why no more is put where no stream puts a frame
 abbrev pub quiet_halt : QuietOnes → Halt
-quiet_halt q = if q.waits then halt.WaitSaved else halt.Idle
+quiet_halt q = halt_of q.waits
 
 -- a pull so far: the connection, and the streams that are quiet till it ends
 pub record Pulling : Type 0 where
@@ -101,7 +118,7 @@ Counts false old new = (new.count ≡ old.count) × (new.end.window ≡ old.end.
 abbrev pub came_as : Served → QuietOnes → PlainStream → NextFrame → Turn Pulling Pulling
 came_as s q stream (next.Put m line) = Stop (pull_of (frame_put (dcp_frame m stream.opaque stream.vb) line s) q)
 came_as s q stream (next.End reason) = Stop (pull_of (end_put stream reason s) q)
-came_as s q stream (next.Quiet waits) = More (pull_of s (with_quiet stream.id waits q))
+came_as s q stream (next.Quiet for) = More (pull_of s (with_quiet stream.id for q))
 
 -- so its turn comes to this, and it goes on
 abbrev pub came : Served → QuietOnes → Next → Turn Pulling Pulling

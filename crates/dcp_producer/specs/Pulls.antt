@@ -1,22 +1,24 @@
 -- what a pull puts, in turn, and why it puts no more, in words beside the definitions
-use Rattle.std.specs.Prelude.{ℕ, ◌+◌, ◌<◌, ◌≤◌, ◌≡◌, ◌⊎◌, ◌↔◌, true, List, [], ◌∷◌, ◌++◌, length, map}
+use Rattle.std.specs.Prelude.{ℕ, ◌+◌, ◌<◌, ◌≤◌, ◌≡◌, ◌⊎◌, ◌↔◌, List, [], ◌∷◌, ◌++◌, length, map}
 use Rattle.std.specs.List.{concat}
 use Rattle.mcbp_frame.specs.Spelling.{spelling}
 use Rattle.vb_calls.specs.Programs.{Made}
 use Rattle.dcp_producer.specs.declared.halt.Halt.{Halt}
 use Rattle.dcp_producer.specs.declared.halt.Halt.TheVariants as halt
 use Rattle.dcp_producer.specs.declared.next_frame.NextFrame.TheVariants as next
+use Rattle.dcp_producer.specs.declared.next_frame.Waits.{Waits}
+use Rattle.dcp_producer.specs.declared.next_frame.Waits.TheVariants as waits
 use Rattle.dcp_producer.specs.Holding.{IsShut}
 use Rattle.dcp_producer.specs.Orders.{AreBetween, AreOut, most_calls, total}
 use Rattle.dcp_producer.specs.Producers.{PlainStream, Served}
 use Rattle.dcp_producer.specs.Turns.{Tried, StandApart, TakeTurns, TurnsOn, turns_of, put_in, made_in}
 
--- one of the streams that were asked waits for what is to be saved
-abbrev pub OneWaits : List Tried → Type 0
-OneWaits [] = ⊥
-OneWaits (t ∷ more) = (t.next ≡ next.Quiet true) ⊎ OneWaits more
+-- one of the streams that were asked waits for this
+abbrev pub OneWaits : Waits → List Tried → Type 0
+OneWaits for [] = ⊥
+OneWaits for (t ∷ more) = (t.next ≡ next.Quiet for) ⊎ OneWaits for more
 
--- A pull of k frames asked these streams, one after the other, always the first of those that waited for their turns; a stream that put a frame came last, and one that was over or quiet waited no more. The turn is then behind the last stream that put a frame. Each left all others as they were, and nothing else of the connection changed but the window and whose turn it is. Their frames are what was put and told. All were put exactly where it says so. Else it was first the window that was shut, or next no stream waited any more: then it says that it waits exactly where one of them said so, and that there was no more where none did
+-- A pull of k frames asked these streams, one after the other, always the first of those that waited for their turns; a stream that put a frame came last, and one that was over or quiet waited no more. The turn is then behind the last stream that put a frame. Each left all others as they were, and nothing else of the connection changed but the window and whose turn it is. Their frames are what was put and told. All were put exactly where it says so. Else it was first the window that was shut, or next no stream waited for its turn any more: then it says that one waits for the answer to a state exactly where one of them said so, next that one waits for what is to be saved exactly where one said that, and that there was no more where none said either
 pub record PullsInTurn (k : ℕ) (s : Served) (made : List Made) (left : Served) (halted : Halt) : Type 0 where
   pub tries : List Tried
   pub awake : List PlainStream
@@ -32,9 +34,12 @@ pub record PullsInTurn (k : ℕ) (s : Served) (made : List Made) (left : Served)
   pub rest : left.end ≡ record s.end { streams = left.end.streams; turn = left.end.turn; window = left.end.window }
   pub all : (halted ≡ halt.All) ↔ (length (put_in s.end.desk.stream tries) ≡ k)
   pub full : (halted ≡ halt.Full) ↔ ((length (put_in s.end.desk.stream tries) < k) × IsShut left.end.window)
-  pub waits : (halted ≡ halt.WaitSaved) ↔ ((length (put_in s.end.desk.stream tries) < k) × (IsShut left.end.window → ⊥) × OneWaits tries)
-  pub idle : (halted ≡ halt.Idle) ↔ ((length (put_in s.end.desk.stream tries) < k) × (IsShut left.end.window → ⊥) × (OneWaits tries → ⊥))
-  pub quiet : (halted ≡ halt.WaitSaved) ⊎ (halted ≡ halt.Idle) → awake ≡ []
+  pub states : (halted ≡ halt.WaitState) ↔ ((length (put_in s.end.desk.stream tries) < k) × (IsShut left.end.window → ⊥) × OneWaits waits.State tries)
+  pub saves : (halted ≡ halt.WaitSaved)
+      ↔ ((length (put_in s.end.desk.stream tries) < k) × (IsShut left.end.window → ⊥) × (OneWaits waits.State tries → ⊥) × OneWaits waits.Saved tries)
+  pub idle : (halted ≡ halt.Idle)
+      ↔ ((length (put_in s.end.desk.stream tries) < k) × (IsShut left.end.window → ⊥) × (OneWaits waits.State tries → ⊥) × (OneWaits waits.Saved tries → ⊥))
+  pub quiet : (halted ≡ halt.WaitState) ⊎ (halted ≡ halt.WaitSaved) ⊎ (halted ≡ halt.Idle) → awake ≡ []
 
 -- so streams take turns
 pub record TurnsTaken (k : ℕ) (s : Served) (made : List Made) (left : Served) (halted : Halt) : Type 0 where

@@ -23,13 +23,15 @@ use Rattle.dcp_producer.specs.declared.desk.Named.{Named}
 use Rattle.dcp_producer.specs.Producers.{PlainStream, PlainProducer, Served}
 use Rattle.dcp_producer.specs.Handshaking.{IsGiven}
 use Rattle.dcp_producer.specs.Having.{IsOpened, NoneOf, IsStreamOf}
+use Rattle.dcp_producer.specs.Counting.{IsClients, IsLinks}
+use Rattle.dcp_producer.specs.Ends.{IsAt}
 use Rattle.dcp_producer.specs.Serving.{stream_request}
 
 -- the number of the stream that the connection asks for behind so many: the base of its desk above 32 bits, and then 1, 2, 3 and so on
 abbrev pub number_behind : ℕ → PlainProducer → ℕ
 number_behind asked end = end.desk.base * 4294967296 + (asked + 1)
 
--- a stream that has just begun, under this number: nothing of it was taken, marked or put, and its consumer has all up to the start that it asked for
+-- a stream that has just begun, under this number: nothing of it was taken, marked or put, and its consumer has all up to the start that it asked for; with the flag 1, and with no other, it gives its vBucket up, and is in the first step
 pub record Begins (id : ℕ) (f : Frame) (ask : StreamAsk) (stream : PlainStream) : Type 0 where
   pub number : stream.id ≡ id
   pub vb : stream.vb ≡ f.vb_or_status
@@ -40,6 +42,8 @@ pub record Begins (id : ℕ) (f : Frame) (ask : StreamAsk) (stream : PlainStream
   pub marked : stream.marked ≡ None
   pub reached : stream.reached ≡ ask.start
   pub ended : stream.ended ≡ false
+  pub gives : ask.flags ≡ 1 → IsAt 1 stream
+  pub feeds : ask.flags ≢ 1 → stream.gives ≡ None
 
 -- a request for a stream is answered so, with so many streams asked for then: one frame and one line, and the line has the log and the last seqno. Where it is let continue under a number of its own a stream begins, behind all others; nothing else changes, and under no number nothing at all
 pub record AnsweredWith (f : Frame) (ask : StreamAsk) (asked : ℕ) (s s' : Served) (log : List LogEntry) (high : ℕ) (verdict : AskAnswer) : Type 0 where
@@ -54,14 +58,18 @@ pub record AnsweredWith (f : Frame) (ask : StreamAsk) (asked : ℕ) (s s' : Serv
       → (s'.out ≡ s.out ++ spelling (dcp_frame (msg.StreamAnswer (told.Refused code)) f.opaque 0)) × (s'.end ≡ record s.end { asked = asked })
   pub still : asked ≡ s.end.asked → s'.end ≡ s.end
 
--- what the producer itself has against a request: OPEN did not come, the flags are not 0, or it asked for 2^32 - 1 streams before
+-- what the producer itself has against a request: OPEN did not come, the flags are above 1, or 1 on a client's connection, or it asked for 2^32 - 1 streams before
 abbrev pub IsAgainst : StreamAsk → Served → Type 0
-IsAgainst ask s = (s.end.handshake ≡ handshake.Fresh) ⊎ (0 < ask.flags) ⊎ (4294967295 ≤ s.end.asked)
+IsAgainst ask s = (s.end.handshake ≡ handshake.Fresh) ⊎ (1 < ask.flags) ⊎ ((ask.flags ≡ 1) × IsClients s) ⊎ (4294967295 ≤ s.end.asked)
+
+-- the flags are 0, or 1 on a link's connection
+abbrev pub AreTaken : StreamAsk → Served → Type 0
+AreTaken ask s = (ask.flags ≡ 0) ⊎ ((ask.flags ≡ 1) × IsLinks s)
 
 -- nothing
 pub record IsForIt (ask : StreamAsk) (s : Served) : Type 0 where
   pub opened : IsOpened s
-  pub flags : ask.flags ≡ 0
+  pub flags : AreTaken ask s
   pub numbers : s.end.asked < 4294967295
 
 -- the call of a request for a stream: under the next number where the producer has nothing against it and the connection has no stream of this vBucket, which counts as one more; and else under 0, which opens none. With prepares exactly where CONTROL set both a name and synchronous writes

@@ -59,7 +59,7 @@ later = record { seq = 8; key = 98 ∷ []; act = act.Abort 4 }
 
 -- a stream of the vBucket 3 with both, of which so many were put, and which a change of role ended or did not end
 abbrev pub some_stream : ℕ → ℕ → Bool → PlainStream
-some_stream next reached ended = record { id = 7; vb = 3; opaque = 9; until = 99; items = earlier ∷ later ∷ []; next = next; marked = Some 8; reached = reached; ended = ended }
+some_stream next reached ended = record { id = 7; vb = 3; opaque = 9; until = 99; items = earlier ∷ later ∷ []; next = next; marked = Some 8; reached = reached; ended = ended; gives = None }
 
 -- a pull of so many frames of it alone, which has its turn first or last
 abbrev pub pull_of_it : ℕ → PlainStream → Prog (Served × Halt)
@@ -113,7 +113,7 @@ abbrev pub removal : ℕ → Change
 removal seq = record { seq = seq; key = 97 ∷ []; act = act.Remove 50 1 }
 
 abbrev pub stream_of : ℕ → ℕ → ℕ → List ℕ → PlainStream
-stream_of id until end seqs = record { id = id; vb = id; opaque = 9; until = until; items = map removal seqs; next = 0; marked = Some end; reached = 0; ended = false }
+stream_of id until end seqs = record { id = id; vb = id; opaque = 9; until = until; items = map removal seqs; next = 0; marked = Some end; reached = 0; ended = false; gives = None }
 
 -- the removals of these seqnos were put, in this order
 abbrev pub item_of : ℕ → Event

@@ -31,6 +31,8 @@ use Rattle.vb_calls.specs.declared.calls.VbAnswer.{VbAnswer}
 use Rattle.vb_calls.specs.declared.calls.VbAnswer.TheVariants as answer
 use Rattle.vb_calls.specs.declared.calls.VbReply.{VbReply}
 use Rattle.vb_calls.specs.Programs.{Prog, Done, Call}
+use Rattle.takeover.specs.GivingUp.{answered, new_give_up}
+use Rattle.takeover.specs.declared.give_up.GiveUp.{GiveUp}
 use Rattle.dcp_producer.specs.declared.desk.Desk.{Desk}
 use Rattle.dcp_producer.specs.declared.desk.Handshake.{Handshake}
 use Rattle.dcp_producer.specs.declared.desk.Handshake.TheVariants as handshake
@@ -182,12 +184,12 @@ ask_verdict (Some reply) = verdict_of reply.answer
 abbrev pub MOST_STREAMS : ℕ
 MOST_STREAMS = 2 ^ 32 - 1
 
--- why the producer itself refuses a request for a stream: Einval before OPEN and for flags that are not known, NotSupported for a takeover, Etmpfail where it asked for so many streams that no number is left
+-- why the producer itself refuses a request for a stream: Einval before OPEN and for flags that are not known, NotSupported for a takeover on a client's connection, Etmpfail where it asked for so many streams that no number is left
 abbrev pub request_refusal : PlainProducer → StreamAsk → Option Status
 request_refusal end ask =
     if not (is_open end.handshake) then Some status.Einval
     else if nat_lt 1 ask.flags then Some status.Einval
-    else if ask.flags == 1 then Some status.NotSupported
+    else if ask.flags == 1 && is_client end.desk.stream then Some status.NotSupported
     else if nat_le MOST_STREAMS end.asked then Some status.Etmpfail
     else None
 
@@ -214,9 +216,13 @@ stream_verdict log ask_answer.Go = told.Go log
 stream_verdict log (ask_answer.Roll to) = told.Roll to
 stream_verdict log (ask_answer.Refuse code) = told.Refused code
 
+-- with the flag 1 a stream gives its vBucket up, from the first step
+abbrev pub gives_of : ℕ → Option GiveUp
+gives_of flags = if flags == 1 then Some new_give_up else None
+
 -- a stream begins with no snapshot taken, and its consumer has all up to the start that it asked for
 abbrev pub new_stream : ℕ → Frame → StreamAsk → PlainStream
-new_stream id f ask = record { id = id; vb = f.vb_or_status; opaque = f.opaque; until = ask.end; items = []; next = 0; marked = None; reached = ask.start; ended = false }
+new_stream id f ask = record { id = id; vb = f.vb_or_status; opaque = f.opaque; until = ask.end; items = []; next = 0; marked = None; reached = ask.start; ended = false; gives = gives_of ask.flags }
 
 -- a request that is let continue makes a stream of this number
 abbrev pub with_granted : PlainProducer → ℕ → Frame → StreamAsk → AskAnswer → PlainProducer
@@ -382,9 +388,21 @@ abbrev pub read_answered : Frame → Option (Result DcpMsg DcpFault) → Served 
 read_answered f None s = Done (status_sent f status.Einval s)
 read_answered f (Some read) s = if f.datatype == 0 then row_answered f read s else Done (status_sent f status.Einval s)
 
--- a request is answered, with UnknownCommand where DCP has no such opcode; a response, which answers nothing that was waited for, is dropped
+-- a state that a stream put with this opaque was answered; a stream that waits for no answer, or gives no vBucket up, is as it was
+abbrev pub heard : ℕ → PlainStream → PlainStream
+heard opaque stream = if stream.opaque == opaque then record stream { gives = option_map answered stream.gives } else stream
+
+-- a response says that a state was taken: its opcode is that of a state, and its status Success
+abbrev pub is_taken : Frame → Bool
+is_taken f = f.opcode == 0x5b && f.vb_or_status == 0
+
+-- a response: that a state was taken is heard by the streams of its opaque, and any other answers nothing that is waited for, and is dropped
+abbrev pub response_heard : Frame → Served → Served
+response_heard f s = if is_taken f then record s { end = record s.end { streams = map (heard f.opaque) s.end.streams } } else s
+
+-- a request is answered, with UnknownCommand where DCP has no such opcode; a response has no answer
 unfoldable pub frame_answered : Frame → Served → Prog Served
 frame_answered f s =
-    if f.magic == RESPONSE then Done s
+    if f.magic == RESPONSE then Done (response_heard f s)
     else if list_any (λ o. o == f.opcode) dcp_opcodes then read_answered f (read_of f) s
     else Done (status_sent f status.UnknownCommand s)

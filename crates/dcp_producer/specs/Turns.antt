@@ -32,7 +32,7 @@ IsTold name t = Told (next_frame name t.stream) t.made (t.next, t.left)
 abbrev pub waiting : NextFrame → PlainStream → List PlainStream → List PlainStream
 waiting (next.Put m line) left rest = rest ++ left ∷ []
 waiting (next.End reason) left rest = rest
-waiting (next.Quiet waits) left rest = rest
+waiting (next.Quiet for) left rest = rest
 
 -- streams were asked one after the other, always the first of those that wait
 abbrev pub TakeTurns : StreamName → List PlainStream → List Tried → List PlainStream → Type 0
@@ -44,7 +44,7 @@ TakeTurns name awake (t ∷ more) left =
 abbrev pub put_by : StreamName → NextFrame → PlainStream → List (Frame × Event)
 put_by name (next.Put m line) left = (dcp_frame m left.opaque left.vb, line) ∷ []
 put_by name (next.End reason) left = (dcp_frame (msg.StreamEnd reason) left.opaque left.vb, event.Finished name reason) ∷ []
-put_by name (next.Quiet waits) left = []
+put_by name (next.Quiet for) left = []
 
 -- all frames that were put, with their lines
 abbrev pub put_in : StreamName → List Tried → List (Frame × Event)
@@ -58,7 +58,7 @@ made_in tries = flat_map (λ t. t.made) tries
 abbrev pub standing_by : NextFrame → PlainStream → List PlainStream → List PlainStream → List PlainStream
 standing_by (next.Put m line) left front back = front ++ left ∷ back
 standing_by (next.End reason) left front back = front ++ back
-standing_by (next.Quiet waits) left front back = front ++ left ∷ back
+standing_by (next.Quiet for) left front back = front ++ left ∷ back
 
 -- the streams of a connection behind these turns: each leaves all others as they are, in their order
 abbrev pub StandApart : List PlainStream → List Tried → List PlainStream → Type 0
@@ -70,7 +70,7 @@ StandApart streams (t ∷ more) left =
 abbrev pub NextOrder : NextFrame → PlainStream → PlainStream → List PlainStream → List PlainStream → Type 0
 NextOrder (next.Put m line) stream left order after = (front : List PlainStream) × (back : List PlainStream) × (order ≡ front ++ stream ∷ back) × (after ≡ (back ++ front) ++ left ∷ [])
 NextOrder (next.End reason) stream left order after = (front : List PlainStream) × (back : List PlainStream) × (order ≡ front ++ stream ∷ back) × (after ≡ back ++ front)
-NextOrder (next.Quiet waits) stream left order after = after ≡ order
+NextOrder (next.Quiet for) stream left order after = after ≡ order
 
 -- and behind these
 abbrev pub TurnsOn : List PlainStream → List Tried → List PlainStream → Type 0

@@ -1,5 +1,5 @@
 -- what is left of a producer where memory was wanting in a call
-use Rattle.std.specs.Prelude.{ℕ, ◌≡◌, ◌⊎◌, Bool, List, [], ◌∷◌, map, Option, Result, Ok, Err}
+use Rattle.std.specs.Prelude.{ℕ, ◌≡◌, ◌⊎◌, Bool, true, List, [], ◌∷◌, map, Option, Result, Ok, Err}
 use Rattle.vb_calls.specs.declared.calls.VbCall.{VbCall}
 use Rattle.vb_calls.specs.declared.calls.VbReply.{VbReply}
 use Rattle.vb_calls.specs.Programs.{Prog, Done, Call}
@@ -36,3 +36,17 @@ IsPart (x ∷ all) (y ∷ part) = ((x ≡ y) × IsPart all part) ⊎ IsPart all 
 -- the connection is the same one with the same streams, less those that ended; of its window and of whose turn it is nothing is said
 abbrev pub Stays : PlainProducer → PlainProducer → Type 0
 Stays old new = (new.desk ≡ old.desk) × (new.handshake ≡ old.handshake) × (new.asked ≡ old.asked) × IsPart (map standing old.streams) (map standing new.streams)
+
+-- a stream as its vBucket and its consumer knew it; a change of role may have ended it since
+abbrev pub Persists : PlainStream → PlainStream → Type 0
+Persists old new = (new.id ≡ old.id) × (new.vb ≡ old.vb) × (new.opaque ≡ old.opaque) × (old.ended ≡ true → new.ended ≡ true)
+
+-- so it is with each of these
+abbrev pub AllPersist : List PlainStream → List PlainStream → Type 0
+AllPersist [] new = new ≡ []
+AllPersist (x ∷ old) [] = ⊥
+AllPersist (x ∷ old) (y ∷ new) = Persists x y × AllPersist old new
+
+-- the connection is the same one with the same streams, of which more may be ended; of how far each of them is in giving its vBucket up nothing is said
+abbrev pub Remains : PlainProducer → PlainProducer → Type 0
+Remains old new = (new ≡ record old { streams = new.streams }) × AllPersist old.streams new.streams

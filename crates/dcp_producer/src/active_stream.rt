@@ -1,10 +1,11 @@
 //! A stream: the snapshot that it was given last, and how far it was put.
-ghost use Rattle.std.specs.Prelude.{◌≡◌, ◌&&◌, ◌==◌, ◌+◌, ◌^◌, ◌<◌, slice_get, IsSome};
-ghost use Rattle.{std.specs.Option.{option_copied}, dcp_producer.specs.Ending.{ended_in}, dcp_producer.specs.Frames.{past_item, reaches_end, with_snapshot}, dcp_producer.specs.Serving.{new_stream}};
+ghost use Rattle.std.specs.Prelude.{◌≡◌, ◌&&◌, ◌==◌, ◌+◌, ◌^◌, ◌<◌, slice_get, IsSome, true, Some};
+ghost use Rattle.{std.specs.Option.{option_copied, option_map}, dcp_producer.specs.Ending.{ended_in}, dcp_producer.specs.Frames.{past_item, reaches_end, with_snapshot}, dcp_producer.specs.Giving.{is_due}, dcp_producer.specs.Serving.{gives_of, heard, new_stream}, takeover.specs.GivingUp.{done}};
 
 use mcbp_frame::Frame;
 use std::alloc::Global;
 use std::marker::Model;
+use takeover::{GiveStep, GiveUp};
 use vb_types::{Change, Listed, Snapshot, StreamAsk};
 
 /// Whether a stream is given more snapshots.
@@ -19,7 +20,8 @@ pub enum StreamState {
 /// A stream that was opened: under which number, of which vBucket, and with which opaque its frames
 /// go. Of the snapshot that was taken last, the items before `next` have been put; `marked` is the
 /// END of its marker. Its consumer asked for all up to `until`, and may have all up to `reached`:
-/// the start that it asked for, or the last item that was put.
+/// the start that it asked for, or the last item that was put. One that gives its vBucket up to its
+/// consumer's has in `gives` how far that is.
 #[derive(Drop)]
 pub struct ActiveStream {
     pub id: u64,
@@ -31,6 +33,7 @@ pub struct ActiveStream {
     marked: Option<u64>,
     reached: u64,
     state: StreamState,
+    gives: Option<GiveUp>,
 }
 
 impl Model for ActiveStream {
@@ -38,7 +41,18 @@ impl Model for ActiveStream {
 
     ghost Value = { PlainStream };
 
-    ghost view = { λ s. record { id = s.id; vb = s.vb; opaque = s.opaque; until = s.until; items = s.items; next = s.next; marked = s.marked; reached = s.reached; ended = is_ended s.state } };
+    ghost view = { λ s. record { id = s.id; vb = s.vb; opaque = s.opaque; until = s.until; items = s.items; next = s.next; marked = s.marked; reached = s.reached; ended = is_ended s.state; gives = s.gives } };
+}
+
+/// How far a stream with these flags is in giving its vBucket up, if it does.
+fn gives_for(flags: u32) -> Option<GiveUp>
+    ensures { result ≡ gives_of flags }
+{
+    if flags == 1 {
+        Some(GiveUp::new())
+    } else {
+        None
+    }
 }
 
 impl ActiveStream {
@@ -56,6 +70,7 @@ impl ActiveStream {
             marked: None,
             reached: ask.start,
             state: StreamState::Memory,
+            gives: gives_for(ask.flags),
         }
     }
 
@@ -89,6 +104,63 @@ impl ActiveStream {
             Some(end) => self.until <= end,
             None => false,
         }
+    }
+
+    /// How far it is in giving its vBucket up, if it does.
+    pub fn gives(&self) -> Option<GiveUp>
+        ensures { result ≡ self.now.gives }
+    {
+        self.gives
+    }
+
+    /// Goes on to this step of giving its vBucket up.
+    pub fn give_on(&mut self, gives: GiveUp)
+        ensures { self.new ≡ record self.old { gives = Some gives } }
+    {
+        self.gives = Some(gives);
+    }
+
+    /// Whether its vBucket is to be given up now: all of its items are put, and no change of role
+    /// ended it.
+    pub fn is_due(&self) -> bool
+        ensures { result ≡ is_due self.now }
+    {
+        match self.gives {
+            Some(gives) => {
+                gives.next() == GiveStep::Yield
+                    && self.items.as_slice().len() <= self.next
+                    && !self.is_ended()
+            }
+            None => false,
+        }
+    }
+
+    /// Its step of giving its vBucket up was done.
+    pub fn did(&mut self)
+        ensures { self.new ≡ record self.old { gives = option_map done self.old.gives } }
+    {
+        if let Some(gives) = &mut self.gives {
+            gives.done();
+        }
+    }
+
+    /// A state was answered that was put with this opaque.
+    pub fn hear(&mut self, opaque: u32)
+        ensures { self.new ≡ heard opaque self.old }
+    {
+        if self.opaque != opaque {
+            return;
+        }
+        if let Some(gives) = &mut self.gives {
+            gives.answered();
+        }
+    }
+
+    /// A change of role ended it.
+    pub fn end(&mut self)
+        ensures { self.new ≡ record self.old { ended = true } }
+    {
+        self.state = StreamState::Ended;
     }
 
     /// The last seqno that its consumer may have.

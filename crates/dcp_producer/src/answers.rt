@@ -1,12 +1,12 @@
 //! How a producer answers the requests of a connection.
 ghost use Rattle.std.specs.Prelude.{◌≡◌, ◌<◌, ◌-◌, ◌^◌, IfOk, OnOk, OnErr};
-ghost use Rattle.dcp_producer.specs.Serving.{with_frame, ask_verdict, high_of_reply, kept_listed, log_of_reply, set_answered, sized_as, control_answered, close_requested, log_requested, log_sent, IsSendable, new_stream, next_stream, noop_answered, opening_requested, refusal_requested, request_refusal, stream_verdict, stream_answered, stream_request, with_asked, message_answered, read_answered, frame_answered};
+ghost use Rattle.dcp_producer.specs.Serving.{with_frame, ask_verdict, high_of_reply, kept_listed, log_of_reply, set_answered, sized_as, control_answered, close_requested, log_requested, log_sent, IsSendable, new_stream, next_stream, noop_answered, opening_requested, refusal_requested, request_refusal, response_heard, stream_verdict, stream_answered, stream_request, with_asked, message_answered, read_answered, frame_answered};
 ghost use Rattle.{dcp_producer.specs.Producers.{with_opened, without_stream}, dcp_producer.specs.Wanting.{Cut, Sent}, mcbp_dcp.specs.DcpFrames.{dcp_frame, IsVerdict}, mcbp_dcp.specs.declared.message.DcpMsg.TheVariants.{StreamAnswer}};
 ghost use Rattle.{mcbp_dcp.specs.declared.message.StreamVerdict.TheVariants.{Go, Roll}, vb_calls.specs.Programs.{Ran}};
 
 use crate::replies::{Standing, log_of, standing_of};
 use crate::{ActiveStream, Alloc, Connection, Handshake, close_stream};
-use mcbp_dcp::{DcpFault, DcpMsg, StreamVerdict, is_dcp, read_dcp};
+use mcbp_dcp::{DcpFault, DcpMsg, Opcode, StreamVerdict, is_dcp, read_dcp};
 use mcbp_frame::{Frame, RESPONSE};
 use vb_calls::{VbAccess, VbCall, VbReply};
 use vb_events::Event;
@@ -106,7 +106,7 @@ impl Connection {
     {
         if !self.handshake.is_open() || ask.flags > 1 {
             Some(Status::Einval)
-        } else if ask.flags == 1 {
+        } else if ask.flags == 1 && self.desk.is_client() {
             Some(Status::NotSupported)
         } else if self.asked == u32::MAX {
             Some(Status::Etmpfail)
@@ -305,6 +305,18 @@ impl Connection {
         answered
     }
 
+    /// Hears a response: that a state was taken, by the streams of its opaque. Any other answers
+    /// nothing that is waited for, and is dropped.
+    fn hear_response(&mut self, f: &Frame)
+        ensures { self.new ≡ response_heard f.now self.old }
+    {
+        let taken = f.opcode == Opcode::SetVbucketState.number()
+            && f.vb_or_status == Status::Success.code();
+        if taken {
+            self.hear_answer(f.opaque);
+        }
+    }
+
     /// Answers a frame.
     #[tactic(auto, using(vb_calls::proofs::Runs::runs), unfolding(crate::specs::Serving::frame_answered, mcbp_dcp::specs::Messages::read_of))]
     pub fn answer_frame<A: VbAccess>(&mut self, vbs: &mut A, f: &Frame) -> Alloc<()>
@@ -312,6 +324,7 @@ impl Connection {
         ensures err { OnErr result (Cut A.step (frame_answered f.now self.old) self.old.end vbs.old self.new.end vbs.new) }
     {
         if f.magic == RESPONSE {
+            self.hear_response(f);
             return Ok(());
         }
         if !is_dcp(f.opcode) {

@@ -35,8 +35,8 @@ pub fn headers_cut_frames()
 {}
 
 /// Whatever vBuckets reply, each frame that a pull puts has its line: the next item of a stream, in the
-/// message of its act, with its seqno, its act and its key; a marker, with its numbers; or the end of a
-/// stream, with its reason. It goes with the opaque and for the vBucket of a stream that the connection
+/// message of its act, with its seqno, its act and its key; a marker, with its numbers; the end of a
+/// stream, with its reason; or a state, pending or active. It goes with the opaque and for the vBucket of a stream that the connection
 /// has. Where the messages of all items have spellings, those of its streams and those that vBuckets give,
 /// the items that are put are such.
 pub fn frames_have_their_lines()

@@ -2,7 +2,7 @@
 ghost use Rattle.std.specs.Prelude.{◌≡◌, map, ◌<◌, ◌≤◌, ◌+◌, ◌*◌, ◌^◌, ◌==◌, OnOk, OnErr};
 ghost use Rattle.std.specs.{List.{All, position}, Option.{option_copied}};
 ghost use Rattle.{dcp_producer.specs.Ending.{ended_in, ended_by, streams_closed, end_closed}, vb_calls.specs.Programs.{Ran}};
-ghost use Rattle.{dcp_producer.specs.Producers.{begun, new_end, stream_at, with_opened, without_id, without_stream}, dcp_producer.specs.Serving.{with_event, with_frame, status_sent}, dcp_producer.specs.Wanting.{Sent}, mcbp_dcp.specs.DcpFrames.{dcp_frame, IsSpelled}};
+ghost use Rattle.{dcp_producer.specs.Producers.{begun, new_end, stream_at, with_opened, without_id, without_stream}, dcp_producer.specs.Serving.{heard, with_event, with_frame, status_sent}, dcp_producer.specs.Wanting.{Sent}, mcbp_dcp.specs.DcpFrames.{dcp_frame, IsSpelled}};
 ghost use Rattle.{mcbp_dcp.specs.declared.message.DcpMsg.TheVariants.{StreamAnswer}, mcbp_dcp.specs.declared.message.StreamVerdict.TheVariants.{Refused}};
 
 use crate::{ActiveStream, Alloc, Asked, Desk, Handshake, close_stream};
@@ -77,6 +77,15 @@ fn end_each(streams: &mut Vec<ActiveStream>, vb: u16, ids: &[u64])
     }
 }
 
+/// The streams that put a state with this opaque go on, as it was answered.
+fn hear_each(streams: &mut Vec<ActiveStream>, opaque: u32)
+    ensures { streams.new.items ≡ map (heard opaque) streams.old.items }
+{
+    for stream in streams.iter_mut() {
+        stream.hear(opaque);
+    }
+}
+
 /// Closes each stream that no change of role ended.
 fn close_each<A: VbAccess>(streams: &[ActiveStream], vbs: &mut A)
     ensures { Ran A.step (streams_closed streams.now) vbs.old tt vbs.new }
@@ -146,6 +155,13 @@ impl Connection {
         ensures { self.new ≡ record self.old { end = ended_by vb ids.now self.old.end } }
     {
         end_each(&mut self.streams, vb, ids);
+    }
+
+    /// The streams that put a state with this opaque go on, as it was answered.
+    pub fn hear_answer(&mut self, opaque: u32)
+        ensures { self.new ≡ record self.old { end = record self.old.end { streams = map (heard opaque) self.old.end.streams } } }
+    {
+        hear_each(&mut self.streams, opaque);
     }
 
     /// Closes the streams that no change of role ended, in the order in which they were opened.

@@ -1,16 +1,17 @@
 //! The next frame of a stream, out of the snapshots that its vBucket gives.
-ghost use Rattle.std.specs.Prelude.{◌≡◌, IfOk, OnErr};
-ghost use Rattle.dcp_producer.specs.Frames.{act_sent, item_line, item_frame, marker_flags, marker_next, take_answered, take_requested, placed_next, place_requested, more_next, next_frame, IsPuttable};
+ghost use Rattle.std.specs.Prelude.{◌≡◌, IfOk, OnErr, None};
+ghost use Rattle.dcp_producer.specs.Frames.{act_sent, alive_next, close_sent, none_next, role_of, state_next, state_put, step_next, item_line, item_frame, marker_flags, marker_next, take_answered, take_requested, placed_next, place_requested, more_next, next_frame, IsPuttable};
 ghost use Rattle.{dcp_producer.specs.Wanting.{standing}, vb_calls.specs.Programs.{Ran, Began}};
 
 use crate::messages::message_of;
 use crate::replies::{answer_of, place_said};
-use crate::{ActiveStream, Alloc, NextFrame, close_stream};
+use crate::{ActiveStream, Alloc, NextFrame, Waits, close_stream};
 use mcbp_dcp::DcpMsg;
 use std::alloc::Global;
+use takeover::{GiveStep, GiveUp};
 use vb_calls::{VbAccess, VbAnswer, VbCall, VbReply};
 use vb_events::{Event, ItemAct, StreamName};
-use vb_types::{Act, Change, Place, Snapshot};
+use vb_types::{Act, Change, Place, Role, Snapshot};
 
 /// The reason of a stream's end, on the wire: all that was asked for was sent.
 const ALL_SENT: u32 = 0;
@@ -61,10 +62,22 @@ fn item_frame(alloc: Global, name: StreamName, change: &Change) -> Alloc<NextFra
     })
 }
 
+/// The role that a step tells the consumer's vBucket to have next, where it tells one.
+fn role_in(step: GiveStep) -> Option<Role>
+    ensures { result ≡ role_of step }
+{
+    match step {
+        GiveStep::SendPending => Some(Role::Pending),
+        GiveStep::SendActive => Some(Role::Active),
+        _ => None,
+    }
+}
+
 impl ActiveStream {
     /// Goes to a snapshot, by its marker.
     fn mark(&mut self, name: StreamName, snapshot: Snapshot) -> NextFrame
         ensures next { (result, self.new) ≡ marker_next name self.old snapshot }
+        ensures same { standing self.new ≡ standing self.old }
         ensures spelled { IsPuttable result }
     {
         let (start, end) = (snapshot.start, snapshot.end);
@@ -81,14 +94,61 @@ impl ActiveStream {
         }
     }
 
+    /// Puts a state, which ends its step.
+    fn put_state(&mut self, name: StreamName, mut gives: GiveUp, role: Role) -> NextFrame
+        ensures next { (result, self.new) ≡ state_put name self.old gives role }
+        ensures same { standing self.new ≡ standing self.old }
+        ensures spelled { IsPuttable result }
+    {
+        gives.done();
+        self.give_on(gives);
+        NextFrame::Put {
+            message: DcpMsg::SetVbucketState { role },
+            line: Event::Stated { stream: name, role },
+        }
+    }
+
+    /// Puts the state of a step that tells one; in any other the stream waits.
+    fn next_state(&mut self, name: StreamName, gives: GiveUp) -> NextFrame
+        ensures next { (result, self.new) ≡ state_next name self.old gives (role_of gives.step) }
+        ensures same { standing self.new ≡ standing self.old }
+        ensures spelled { IsPuttable result }
+    {
+        match role_in(gives.next()) {
+            Some(role) => self.put_state(name, gives, role),
+            None => NextFrame::Quiet {
+                waits: Waits::State,
+            },
+        }
+    }
+
+    /// There is no snapshot. Where the stream gives its vBucket up it has sent all there was, and
+    /// the next step has its turn.
+    fn answer_none(&mut self, name: StreamName) -> NextFrame
+        ensures next { (result, self.new) ≡ none_next name self.old self.old.gives }
+        ensures same { standing self.new ≡ standing self.old }
+        ensures spelled { IsPuttable result }
+    {
+        match self.gives() {
+            Some(mut gives) => {
+                gives.done();
+                self.next_state(name, gives)
+            }
+            None => NextFrame::Quiet {
+                waits: Waits::Nothing,
+            },
+        }
+    }
+
     /// Goes to the snapshot that was taken, if one was; a stream that its vBucket lost is over.
     fn answer_take(&mut self, name: StreamName, reply: Option<VbReply>) -> NextFrame
         ensures next { (result, self.new) ≡ take_answered name self.old reply }
+        ensures same { standing self.new ≡ standing self.old }
         ensures spelled { IsPuttable result }
     {
         match answer_of(reply) {
             Some(VbAnswer::Taken(snapshot)) => self.mark(name, snapshot),
-            Some(VbAnswer::Nothing) => NextFrame::Quiet { waits: false },
+            Some(VbAnswer::Nothing) => self.answer_none(name),
             other => {
                 drop(other);
                 NextFrame::End {
@@ -124,7 +184,9 @@ impl ActiveStream {
     {
         match from {
             Some(Place::Memory) => self.take_snapshot(vbs, name),
-            Some(Place::WaitSaved) => Ok(NextFrame::Quiet { waits: true }),
+            Some(Place::WaitSaved) => Ok(NextFrame::Quiet {
+                waits: Waits::Saved,
+            }),
             None => Ok(NextFrame::End {
                 reason: STATE_CHANGED,
             }),
@@ -142,8 +204,56 @@ impl ActiveStream {
         self.go_on(vbs, name, place_said(reply))
     }
 
+    /// Closes the stream at its vBucket: it is over, as all was sent.
+    #[tactic(auto, using(vb_calls::proofs::Runs::runs))]
+    fn close_sent<A: VbAccess>(&mut self, vbs: &mut A) -> NextFrame
+        ensures ran { Ran A.step (close_sent self.old) vbs.old (result, self.new) vbs.new }
+        ensures same { self.new ≡ self.old }
+        ensures spelled { IsPuttable result }
+    {
+        close_stream(vbs, self.vb, self.id);
+        NextFrame::End { reason: ALL_SENT }
+    }
+
+    /// What a stream that gives its vBucket up puts in a step: the snapshots that there are, a state,
+    /// or its end.
+    #[tactic(auto, using(vb_calls::proofs::Runs::runs))]
+    fn next_step<A: VbAccess>(
+        &mut self,
+        vbs: &mut A,
+        name: StreamName,
+        gives: GiveUp,
+    ) -> Alloc<NextFrame>
+        ensures ok { IfOk result (λ next. Ran A.step (step_next name self.old gives gives.step) vbs.old (next, self.new) vbs.new) }
+        ensures err { OnErr result (Began A.step (step_next name self.old gives gives.step) vbs.old vbs.new) }
+        ensures same { standing self.new ≡ standing self.old }
+        ensures spelled { IfOk result IsPuttable }
+    {
+        match gives.next() {
+            GiveStep::SendAll | GiveStep::SendRest => self.place(vbs, name),
+            GiveStep::End => Ok(self.close_sent(vbs)),
+            _ => Ok(self.next_state(name, gives)),
+        }
+    }
+
+    /// What a stream puts that gives no vBucket up: its end, where all that was asked for was sent,
+    /// and else the next snapshot.
+    #[tactic(auto, using(vb_calls::proofs::Runs::runs))]
+    fn next_fed<A: VbAccess>(&mut self, vbs: &mut A, name: StreamName) -> Alloc<NextFrame>
+        requires { self.old.gives ≡ None }
+        ensures ok { IfOk result (λ next. Ran A.step (alive_next name self.old None) vbs.old (next, self.new) vbs.new) }
+        ensures err { OnErr result (Began A.step (alive_next name self.old None) vbs.old vbs.new) }
+        ensures same { standing self.new ≡ standing self.old }
+        ensures spelled { IfOk result IsPuttable }
+    {
+        if self.reaches_end() {
+            return Ok(self.close_sent(vbs));
+        }
+        self.place(vbs, name)
+    }
+
     /// What comes behind the items of the snapshot: the stream's end, where a change of role ended
-    /// it or all that was asked for was sent, and else the next snapshot.
+    /// it, and else what it puts next.
     #[tactic(auto, using(vb_calls::proofs::Runs::runs))]
     fn next_marker<A: VbAccess>(&mut self, vbs: &mut A, name: StreamName) -> Alloc<NextFrame>
         ensures ok { IfOk result (λ next. Ran A.step (more_next name self.old) vbs.old (next, self.new) vbs.new) }
@@ -156,11 +266,10 @@ impl ActiveStream {
                 reason: STATE_CHANGED,
             });
         }
-        if self.reaches_end() {
-            close_stream(vbs, self.vb, self.id);
-            return Ok(NextFrame::End { reason: ALL_SENT });
+        match self.gives() {
+            Some(gives) => self.next_step(vbs, name, gives),
+            None => self.next_fed(vbs, name),
         }
-        self.place(vbs, name)
     }
 
     /// The next frame of the stream: the next item of the snapshot that was taken last, and behind

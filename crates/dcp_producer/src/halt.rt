@@ -13,8 +13,11 @@ pub enum Halt {
     Idle,
     /// The window is shut.
     Full,
+    /// No stream has anything to put, and one that gives its vBucket up waits for the answer to a
+    /// state.
+    WaitState,
     /// No stream has anything to put, and the next changes of one are not all in memory; it waits
-    /// until they are saved.
+    /// until they are saved. None waits for the answer to a state.
     WaitSaved,
 }
 
@@ -27,6 +30,7 @@ impl Halt {
             Halt::All => Why::All,
             Halt::Idle => Why::Idle,
             Halt::Full => Why::Full,
+            Halt::WaitState => Why::WaitState,
             Halt::WaitSaved => Why::WaitSaved,
         }
     }

@@ -3,8 +3,8 @@ ghost use Rattle.std.specs.Prelude.{◌≡◌, ◌≢◌, ◌<◌, ◌≤◌, �
 ghost use Rattle.dcp_producer.specs.Having.{IsOpened, IsStreamOf, NoneOf};
 ghost use Rattle.dcp_producer.specs.Handshaking.{Asks, Gets, IsFlag, IsKnown, IsName, IsNoOpen, IsNoRequest, IsOther, Sizes};
 ghost use Rattle.dcp_producer.specs.Items.{Asking, EndsBytes, IsNext, MarksBytes, MarksSnapshots, PutsBytes, PutsDurables, PutsPlain, durable_doc, durable_row};
-ghost use Rattle.dcp_producer.specs.Counting.{IsCountable, IsFed, IsMember, IsNoMember, IsUnfed, OneCount};
-ghost use Rattle.dcp_producer.specs.Requesting.{IsForIt, IsFree, IsInactive, IsOutside, OneReply, RefusedWith, number_behind};
+ghost use Rattle.dcp_producer.specs.Counting.{IsClients, IsCountable, IsFed, IsMember, IsNoMember, IsUnfed, OneCount};
+ghost use Rattle.dcp_producer.specs.Requesting.{AreTaken, IsForIt, IsFree, IsInactive, IsOutside, OneReply, RefusedWith, number_behind};
 ghost use Rattle.dcp_producer.specs.Producers.{PlainStream, Served};
 ghost use Rattle.{dcp_producer.specs.Serving.{frame_answered, message_answered, named_by}, dcp_producer.specs.declared.desk.Handshake.TheVariants.{Fresh, Open as Shaken}};
 ghost use Rattle.{dcp_producer.specs.declared.desk.Named.{Named as Name}, dcp_producer.specs.declared.desk.Named.TheVariants.{Member, Nobody, Stranger}};
@@ -60,14 +60,14 @@ pub fn durable_writes_in_bytes()
 {}
 
 /// A frame is UnknownCommand where DCP has no such opcode, next Einval where it has a datatype, and
-/// else it is answered as the message that it is read as. An answer is dropped.
+/// else it is answered as the message that it is read as. An answer to anything but a state is dropped.
 pub fn frames_are_weighed()
     ensures unknown { (f : FrameData) (s : Served) → Asks f false → Gets 0x81 s.end.handshake f s (frame_answered f s) }
     ensures marked { (f : FrameData) (s : Served) → Asks f true → 0 < f.datatype
         → Gets 4 s.end.handshake f s (frame_answered f s) }
     ensures read { (f : FrameData) (m : Message) (s : Served) → Asks f true → f.datatype ≡ 0
         → read_of f ≡ Some (Ok m) → frame_answered f s ≡ message_answered f m s }
-    ensures dropped { (f : FrameData) (s : Served) → f.magic ≡ RESPONSE → frame_answered f s ≡ Done s }
+    ensures dropped { (f : FrameData) (s : Served) → f.magic ≡ RESPONSE → f.opcode ≢ 0x5b → frame_answered f s ≡ Done s }
 {}
 
 /// A frame of DCP of which a producer takes no request is Einval, and so is one whose parts are not its
@@ -163,16 +163,16 @@ pub fn requests_are_one_call()
 {}
 
 /// A request for a stream is refused for the first of these reasons: Einval before OPEN and for flags
-/// above 1, NotSupported for the flag 1, Etmpfail behind 2^32 - 1 streams that were asked for,
+/// above 1, NotSupported for the flag 1 on a client's connection, Etmpfail behind 2^32 - 1 streams that were asked for,
 /// NotMyVbucket where the vBucket is absent or not active, KeyEexists where the connection has a stream of
 /// it, also one whose end is not put, and Erange where its numbers are out of order.
 pub fn requests_are_refused_in_order()
     ensures einval { (f : FrameData) (ask : AskData) (s : Served) (states : States)
         → (s.end.handshake ≡ Fresh) ⊎ (1 < ask.flags) → RefusedWith 4 f ask s states }
     ensures unsupported { (f : FrameData) (ask : AskData) (s : Served) (states : States)
-        → IsOpened s → ask.flags ≡ 1 → RefusedWith 0x83 f ask s states }
+        → IsOpened s → IsClients s → ask.flags ≡ 1 → RefusedWith 0x83 f ask s states }
     ensures numbers { (f : FrameData) (ask : AskData) (s : Served) (states : States)
-        → IsOpened s → ask.flags ≡ 0 → 4294967295 ≤ s.end.asked → RefusedWith 0x86 f ask s states }
+        → IsOpened s → AreTaken ask s → 4294967295 ≤ s.end.asked → RefusedWith 0x86 f ask s states }
     ensures elsewhere { (f : FrameData) (ask : AskData) (s : Served) (states : States)
         → IsForIt ask s → IsInactive (states f.vb_or_status) → RefusedWith 7 f ask s states }
     ensures held { (f : FrameData) (ask : AskData) (s : Served) (states : States) (vb : Plain) (stream : PlainStream)

@@ -20,8 +20,10 @@ mod replies;
 mod row_laws;
 mod sizes;
 mod stream_laws;
+mod takeover_laws;
 mod turn_laws;
 mod window_laws;
+mod yields;
 
 use active_stream::ActiveStream;
 pub use client_laws::{
@@ -37,7 +39,7 @@ pub use laws::{
     members_are_named, opens_are_answered, others_are_einval, requests_are_one_call,
     requests_are_refused_in_order, requests_before_open,
 };
-use next_frame::NextFrame;
+use next_frame::{NextFrame, Waits};
 use producer::close_stream;
 pub use producer::{Asked, Producer, Pulled};
 pub use pull_laws::{
@@ -48,12 +50,17 @@ pub use row_laws::{
     ends_come_behind_items, items_are_put_in_turn, turns_in_order, windows_hold_at_their_edge,
 };
 pub use stream_laws::{closed_streams_are_silent, logs_are_answered, noops_are_answered};
+pub use takeover_laws::{
+    answers_of_states, states_in_bytes, takeovers_in_order, takeovers_in_rows, waits_in_order,
+    yields_in_order,
+};
 pub use turn_laws::{
     connections_end_their_streams, ended_streams_ask_nothing, quiet_exactly, snapshots_follow,
     streams_are_apart, streams_end, streams_end_by_number, streams_reach_what_was_put,
     streams_take_their_own,
 };
 pub use window_laws::{bytes_are_acknowledged, sizes_are_decimals};
+pub use yields::Yielded;
 
 /// What a call gives that needs memory, or that memory was short.
 type Alloc<T> = Result<T, std::alloc::AllocError>;

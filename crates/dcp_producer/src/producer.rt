@@ -1,11 +1,11 @@
 //! A producer, and what it is asked.
 ghost use Rattle.std.specs.Prelude.{◌≡◌, [], IfOk, OnErr, false, true};
 ghost use Rattle.{dcp_producer.specs.Ending.{ended_by, end_closed}, dcp_producer.specs.Producers.{new_end, begun}, dcp_producer.specs.Pulling.{frames_put}};
-ghost use Rattle.{dcp_producer.specs.Serving.{frame_answered}, dcp_producer.specs.Wanting.{Cut, Stays}, vb_calls.specs.Programs.{Ran, Began, Call, Done}};
+ghost use Rattle.{dcp_producer.specs.Serving.{frame_answered}, dcp_producer.specs.Giving.{given_up}, dcp_producer.specs.Wanting.{Cut, Remains, Stays}, vb_calls.specs.Programs.{Ran, Began, Call, Done}};
 ghost use Rattle.vb_calls.specs.declared.calls.VbCall.TheVariants.{CloseStream};
 
 use crate::pulls::Quiet;
-use crate::{Alloc, Connection, Desk, Halt};
+use crate::{Alloc, Connection, Desk, Halt, Yielded};
 use bytes::BytesMut;
 use mcbp_frame::Frame;
 use std::alloc::{AllocError, Global};
@@ -94,6 +94,28 @@ impl Producer {
         self.spent = answered.is_err();
         answered?;
         Ok(asked)
+    }
+
+    /// Gives up the vBuckets that are to be in front of a pull of so many frames, each to the one that
+    /// its stream feeds, in the order in which the streams were opened; none where no frame is asked
+    /// for, or the window is shut. A stream of which the vBucket is not given up is ended.
+    #[tactic(auto, using(vb_calls::proofs::Runs::runs))]
+    pub fn give_up<A: VbAccess>(&mut self, vbs: &mut A, frames: u32) -> Alloc<Listed<Yielded>>
+        ensures ok { IfOk result (λ yielded. Ran A.step (given_up frames self.old.plain) vbs.old (record { end = self.new.plain; yielded = yielded }) vbs.new) }
+        ensures kept { IfOk result (λ yielded. (self.old.spent ≡ false) × (self.new.spent ≡ false)) }
+        ensures err { OnErr result (Began A.step (given_up frames self.old.plain) vbs.old vbs.new) }
+        ensures spent { OnErr result (self.new.spent ≡ true) }
+        ensures over { OnErr result (self.old.spent ≡ true → vbs.new ≡ vbs.old) }
+        ensures still { OnErr result (self.old.spent ≡ true → self.new ≡ self.old) }
+        ensures same { Remains self.old.plain self.new.plain }
+        ensures desk { self.new.plain.desk ≡ self.old.plain.desk }
+    {
+        if self.spent {
+            return Err(AllocError);
+        }
+        let given = self.connection.give_up(vbs, frames);
+        self.spent = given.is_err();
+        given
     }
 
     /// Puts at most so many frames of the streams, which take turns frame by frame.

@@ -6,21 +6,20 @@ ghost use Rattle.{dcp_producer.specs.Frames.{IsPuttable}, dcp_producer.specs.Pro
 ghost use Rattle.mcbp_dcp.specs.DcpFrames.{dcp_frame, IsSpelled};
 
 use crate::connection::place_of;
-use crate::{Alloc, Connection, Halt, NextFrame};
+use crate::{Alloc, Connection, Halt, NextFrame, Waits};
 use mcbp_dcp::DcpMsg;
 use std::alloc::Global;
 use std::marker::Model;
 use vb_calls::VbAccess;
 use vb_events::Event;
 
-/// The streams that put nothing when they were asked in a pull, and whether one of them waits for
-/// what is to be saved. They are asked no more in that pull: nobody else calls their vBuckets
+/// The streams that put nothing when they were asked in a pull, and what they wait for. They are asked no more in that pull: nobody else calls their vBuckets
 /// meanwhile. `place` is where the next one is looked for first: they mostly stand in the order of
 /// their turns.
 #[derive(Drop)]
 pub struct Quiet {
     ids: Vec<u64>,
-    waits: bool,
+    waits: Waits,
     place: usize,
 }
 
@@ -39,7 +38,7 @@ impl Quiet {
     {
         Quiet {
             ids: Vec::new(alloc),
-            waits: false,
+            waits: Waits::Nothing,
             place: 0,
         }
     }
@@ -49,7 +48,7 @@ impl Quiet {
         ensures { self.new ≡ none_quiet }
     {
         self.ids.clear();
-        self.waits = false;
+        self.waits = Waits::Nothing;
         self.place = 0;
     }
 
@@ -71,11 +70,11 @@ impl Quiet {
     }
 
     /// A stream is quiet till the pull ends.
-    fn add(&mut self, id: u64, waits: bool) -> Alloc<()>
+    fn add(&mut self, id: u64, waits: Waits) -> Alloc<()>
         ensures { OnOk result (self.new ≡ with_quiet id waits self.old) }
     {
         self.ids.push(id)?;
-        self.waits |= waits;
+        self.waits = self.waits.or(waits);
         Ok(())
     }
 
@@ -83,11 +82,7 @@ impl Quiet {
     fn halt(&self) -> Halt
         ensures { result ≡ quiet_halt self.now }
     {
-        if self.waits {
-            Halt::WaitSaved
-        } else {
-            Halt::Idle
-        }
+        self.waits.halt()
     }
 }
 

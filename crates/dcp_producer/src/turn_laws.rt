@@ -1,11 +1,11 @@
 //! How streams take their own snapshots, and how they end with a change of role and with their connection;
 //! each law as the contract of a function that does nothing.
-ghost use Rattle.std.specs.Prelude.{◌≡◌, ℕ, true, List, [], Some};
+ghost use Rattle.std.specs.Prelude.{◌≡◌, ◌≢◌, ℕ, true, List, [], Some};
 ghost use Rattle.dcp_producer.specs.{Apart.{EndsNoOthers, LeavesOthers}, Serving.{frame_answered}, Ending.{AreEnding, LeavesEnding, NoCall}, Going.{FollowsSo, ReachesSo}, Having.{IsSound}, Pulling.{frames_put}, Endings.{ClosesAlive, EndsNamed}, Ends.{EndsSo, IsQuietSo}, Frames.{next_frame, place_said, placed_next}, Producers.{PlainProducer, PlainStream, Served, new_end}, Taking.{AsksFirst}};
 ghost use Rattle.dcp_producer.specs.declared.desk.{Desk.{Desk as DeskData}, Handshake.TheVariants.{Fresh}};
 ghost use Rattle.{dcp_producer.specs.declared.next_frame.NextFrame.{NextFrame as Frame}, vb_calls.specs.Programs.{Always, AnyCall, Made, Told}};
 ghost use Rattle.vb_calls.specs.declared.calls.{Resolved.{Resolved}, VbAnswer.TheVariants.{Placed}, VbCall.TheVariants.{Take}};
-ghost use Rattle.mcbp_frame.specs.declared.frame.Frame.{Frame as FrameData};
+ghost use Rattle.mcbp_frame.specs.declared.frame.{Frame.{Frame as FrameData}, TheConstants.{RESPONSE}};
 ghost use Rattle.vb_events.specs.declared.event.StreamName.{StreamName as Name};
 ghost use Rattle.vb_types.specs.declared.{change.Change.{Change as ChangeData}, stream.Place.TheVariants.{Memory}};
 
@@ -17,15 +17,18 @@ pub fn streams_take_their_own()
 {}
 
 /// A stream is over with reason 0 exactly where, behind its items, no change of role ended it and its last
-/// marker reaches the end that was asked for, and then alone it is closed at its vBucket; with reason 2
+/// marker reaches the end that was asked for, or, of one that gives its vBucket up, it is in the eighth
+/// step, whatever end was asked for; and then alone it is closed at its vBucket; with reason 2
 /// exactly where, behind its items, a change of role ended it, or else its vBucket lost it; and for no other
 /// reason. No marker comes behind a snapshot that reached the end.
 pub fn streams_end()
     ensures { (name : Name) (stream left : PlainStream) (made : List Made) (next : Frame) → Told (next_frame name stream) made (next, left) → EndsSo stream made next }
 {}
 
-/// A stream is quiet exactly where no end is due behind its items and its vBucket says that its changes are
-/// to be saved first, and then it waits, or that it has no snapshot for it yet.
+/// A stream is quiet exactly where its vBucket is asked behind its items and says that its changes are to be
+/// saved first, for which it waits then, or, to one that gives no vBucket up, that it has no snapshot for it
+/// yet; or where it gives its vBucket up, is in the third, the fourth or the seventh step, and waits for an
+/// answer.
 pub fn quiet_exactly()
     ensures { (name : Name) (stream left : PlainStream) (made : List Made) (next : Frame) → Told (next_frame name stream) made (next, left) → IsQuietSo stream made next }
 {}
@@ -39,7 +42,8 @@ pub fn ended_streams_ask_nothing()
 
 /// Behind an item, which needs no call, a stream is one item further. Behind the last one, where no end is
 /// due, its vBucket is asked first where the next changes come from; a marker is that of the snapshot that
-/// was given then, whose items begin with the first. A stream that is quiet or over is as it was.
+/// was given then, whose items begin with the first. Behind a state all but how
+/// far the stream gives its vBucket up is as it was. One that is quiet or over is as it was.
 pub fn snapshots_follow()
     ensures { (name : Name) (stream left : PlainStream) (made : List Made) (next : Frame) → Told (next_frame name stream) made (next, left) → FollowsSo stream made next left }
 {}
@@ -50,10 +54,10 @@ pub fn streams_reach_what_was_put()
     ensures { (name : Name) (stream left : PlainStream) (made : List Made) (next : Frame) → Told (next_frame name stream) made (next, left) → ReachesSo stream next left }
 {}
 
-/// An answer to a frame of one vBucket leaves the streams of all others as they are, in their order, and so
+/// An answer to a request of one vBucket leaves the streams of all others as they are, in their order, and so
 /// does a change of role there.
 pub fn streams_are_apart()
-    ensures answers { (f : FrameData) (s : Served) → IsSound s.end → Always AnyCall (LeavesOthers f.vb_or_status s.end) (frame_answered f s) }
+    ensures answers { (f : FrameData) (s : Served) → f.magic ≢ RESPONSE → IsSound s.end → Always AnyCall (LeavesOthers f.vb_or_status s.end) (frame_answered f s) }
     ensures roles { (v : ℕ) (ids : List ℕ) (end : PlainProducer) → EndsNoOthers v ids end }
 {}
 

@@ -1,3 +1,4 @@
+use Rattle.dcp_producer.proofs.Giving.{sound_yields}
 use Rattle.dcp_producer.proofs.Sound.{sound_new, sound_answers, sound_pulls, sound_ended}
 use Rattle.dcp_producer.proofs.pull_laws.connections_stay_sound.Goals as goal
 
@@ -12,3 +13,6 @@ returns-clause-pulls c = sound_pulls
 
 pub returns-clause-roles : goal.returns-clause-roles
 returns-clause-roles c = λ v ids end. sound_ended v ids end
+
+pub returns-clause-yields : goal.returns-clause-yields
+returns-clause-yields c = sound_yields
