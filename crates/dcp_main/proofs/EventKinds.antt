@@ -24,6 +24,7 @@ held_by_kind (event.Asked stream node vb ask high log answer) _ _ h _ _ _ _ _ = 
 held_by_kind (event.Marked stream start end flags) _ _ _ h _ _ _ _ = h refl
 held_by_kind (event.Item stream seq act key) _ _ _ h _ _ _ _ = h refl
 held_by_kind (event.Finished stream reason) _ _ h _ _ _ _ _ = h refl
+held_by_kind (event.Stated stream role) _ _ _ h _ _ _ _ = h refl
 held_by_kind (event.Adopted node vb log) _ _ _ _ h _ _ _ = h refl
 held_by_kind (event.Ranged node vb ss se) _ _ _ _ h _ _ _ = h refl
 held_by_kind (event.Got node vb stream change) _ _ _ _ h _ _ _ = h refl

@@ -242,4 +242,5 @@ pub why_plain : (w : Why) → newlines (text.why_text w) ≡ 0
 why_plain why.All = refl
 why_plain why.Idle = refl
 why_plain why.Full = refl
+why_plain why.WaitState = refl
 why_plain why.WaitSaved = refl

@@ -49,6 +49,7 @@ stream_in (event.Asked stream node vb ask high log answer) = omega (arith, strea
 stream_in (event.Marked stream start end flags) = omega (arith, stream_plain stream, decimal_plain start, decimal_plain end, decimal_plain flags)
 stream_in (event.Item stream seq act key) = omega (arith, stream_plain stream, decimal_plain seq, sent_plain act, hex_text_plain key)
 stream_in (event.Finished stream reason) = omega (arith, stream_plain stream, decimal_plain reason)
+stream_in (event.Stated stream role) = omega (arith, stream_plain stream, role_plain role)
 stream_in other = follower_in other
 
 event_in : (e : Event) → in_words (text.event_words e) ≡ 0

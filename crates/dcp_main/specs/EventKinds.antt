@@ -28,6 +28,7 @@ is_of_request other = false
 abbrev pub is_of_frame : Event → Bool
 is_of_frame (event.Marked stream start end flags) = true
 is_of_frame (event.Item stream seq act key) = true
+is_of_frame (event.Stated stream role) = true
 is_of_frame other = false
 
 -- an event of a consumer or its link

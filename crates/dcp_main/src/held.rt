@@ -248,6 +248,7 @@ fn frame_held(event: &Event)
             long(*seq);
             key_held(key);
         }
+        Event::Stated { stream, .. } => stream_held(*stream),
         _ => {}
     }
 }

@@ -7,6 +7,10 @@ pub mod Counted
 pub mod Deliveries
 pub mod Noops
 pub mod FirstRecord
+pub mod GivenTold
+pub mod GivingLaws
+pub mod GivingNumbers
+pub mod GivingWaits
 mod LoadNumbers
 pub mod LoadSteps
 pub mod Noting

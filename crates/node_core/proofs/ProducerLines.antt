@@ -11,10 +11,14 @@ use Rattle.mcbp_dcp.specs.declared.message.DcpMsg.{DcpMsg}
 use Rattle.mcbp_dcp.specs.declared.message.DcpMsg.TheVariants as msg
 use Rattle.mcbp_frame.specs.declared.frame.Frame.{Frame}
 use Rattle.mcbp_frame.specs.declared.frame.TheConstants.{RESPONSE}
-use Rattle.dcp_producer.specs.Frames.{Next, STATE_CHANGED, close_sent, next_by, next_frame, over, place_requested, place_said, placed_next, reaches_end, take_answered, taken_next}
+use Rattle.dcp_producer.specs.Frames.{Next, STATE_CHANGED, alive_next, close_sent, next_by, next_frame, none_next, over, place_requested, place_said, placed_next, reaches_end, role_of, state_next, step_next, take_answered, taken_next}
 use Rattle.dcp_producer.specs.Producers.{PlainProducer, PlainStream, Served, begun, is_open, member_of, stream_at}
 use Rattle.dcp_producer.specs.Pulling.{Pulling, QuietOnes, came, frames_put, is_quiet, none_quiet, one_frame, one_turn, past_turn, pull_of, pulled, stream_asked, stream_in_turn, turn_had, turns_came}
-use Rattle.dcp_producer.specs.Serving.{acknowledged, close_requested, closed_sent, controlled, controlled_as, count_answered, count_requested, counted_by, fed_stream, frame_answered, log_answered, log_given, log_requested, log_sent, message_answered, open_refusal, opened_unless, opening_requested, opens, read_answered, refusal_requested, row_answered, sized, sized_as, status_sent, stream_answered, stream_closed, stream_request, weighed}
+use Rattle.dcp_producer.specs.Serving.{acknowledged, close_requested, closed_sent, controlled, controlled_as, count_answered, count_requested, counted_by, fed_stream, frame_answered, heard, is_taken, log_answered, log_given, log_requested, log_sent, message_answered, open_refusal, opened_unless, opening_requested, opens, read_answered, refusal_requested, response_heard, row_answered, sized, sized_as, status_sent, stream_answered, stream_closed, stream_request, weighed}
+use Rattle.takeover.specs.GivingUp.{done}
+use Rattle.takeover.specs.declared.give_up.GiveStep.{GiveStep}
+use Rattle.takeover.specs.declared.give_up.GiveStep.TheVariants as gives
+use Rattle.takeover.specs.declared.give_up.GiveUp.{GiveUp}
 use Rattle.dcp_producer.specs.declared.desk.Handshake.{Handshake}
 use Rattle.dcp_producer.specs.declared.halt.Halt.{Halt}
 use Rattle.dcp_producer.specs.declared.halt.Halt.TheVariants as halt
@@ -31,6 +35,7 @@ use Rattle.vb_events.specs.declared.event.Event.TheVariants as event
 use Rattle.vb_events.specs.declared.event.StreamName.{StreamName}
 use Rattle.vb_types.specs.declared.change.Change.{Change}
 use Rattle.vb_types.specs.declared.role.LogEntry.{LogEntry}
+use Rattle.vb_types.specs.declared.role.Role.{Role}
 use Rattle.vb_types.specs.declared.status.Status.{Status}
 use Rattle.vb_types.specs.declared.status.Status.TheVariants as status
 use Rattle.vb_types.specs.declared.stream.AskAnswer.{AskAnswer}
@@ -160,10 +165,13 @@ module _ (f : Frame) where
   read_tells None s c = status_tells status.Einval s c
   read_tells (Some read) s c = either_serves (f.datatype == 0) (row_answered f read s) (Done (status_sent f status.Einval s)) (row_tells read s c) (status_tells status.Einval s c)
 
+  heard_tells : (s : Served) → Tells s → Tells (response_heard f s)
+  heard_tells s c = either_tells (is_taken f) (record s { end = record s.end { streams = map (heard f.opaque) s.end.streams } }) s c c
+
   frame_tells : (s : Served) → Tells s → Serves (frame_answered f s)
   unfolding frame_answered
   frame_tells s c =
-      either_serves (f.magic == RESPONSE) (Done s) (if list_any (λ o. o == f.opcode) dcp_opcodes then read_answered f (read_of f) s else Done (status_sent f status.UnknownCommand s)) c
+      either_serves (f.magic == RESPONSE) (Done (response_heard f s)) (if list_any (λ o. o == f.opcode) dcp_opcodes then read_answered f (read_of f) s else Done (status_sent f status.UnknownCommand s)) (heard_tells s c)
       (either_serves (list_any (λ o. o == f.opcode) dcp_opcodes) (read_answered f (read_of f) s) (Done (status_sent f status.UnknownCommand s)) (read_tells (read_of f) s c) (status_tells status.UnknownCommand s c))
 
 -- ---- frames of streams
@@ -177,9 +185,17 @@ abbrev Nexts : Prog Next → Type 0
 Nexts prog = Always AnyCall IsLine prog
 
 module _ (name : StreamName) where
+  state_line : (stream : PlainStream) (g : GiveUp) (o : Option Role) → IsLine (state_next name stream g o)
+  state_line stream g (Some told) = tt
+  state_line stream g None = tt
+
+  none_line : (stream : PlainStream) (o : Option GiveUp) → IsLine (none_next name stream o)
+  none_line stream None = tt
+  none_line stream (Some g) = state_line stream (done g) (role_of (done g).step)
+
   taken_line : (stream : PlainStream) (a : VbAnswer) → IsLine (taken_next name stream a)
   taken_line stream (answer.Taken snapshot) = tt
-  taken_line stream answer.Nothing = tt
+  taken_line stream answer.Nothing = none_line stream stream.gives
   taken_line stream other = tt
 
   take_line : (stream : PlainStream) (reply : Option VbReply) → IsLine (take_answered name stream reply)
@@ -195,11 +211,26 @@ module _ (name : StreamName) where
   either_line true x y p q = p
   either_line false x y p q = q
 
+  requested_line : (stream : PlainStream) → Nexts (place_requested name stream)
+  requested_line stream = (tt, λ reply any. placed_line stream (place_said reply))
+
+  step_line : (stream : PlainStream) (g : GiveUp) (at : GiveStep) → Nexts (step_next name stream g at)
+  step_line stream g gives.SendAll = requested_line stream
+  step_line stream g gives.SendPending = tt
+  step_line stream g gives.AwaitPending = tt
+  step_line stream g gives.Yield = tt
+  step_line stream g gives.SendRest = requested_line stream
+  step_line stream g gives.SendActive = tt
+  step_line stream g gives.AwaitActive = tt
+  step_line stream g gives.End = (tt, λ reply any. tt)
+
+  alive_line : (stream : PlainStream) (o : Option GiveUp) → Nexts (alive_next name stream o)
+  alive_line stream None = either_line (reaches_end stream.until stream.marked) (close_sent stream) (place_requested name stream) (tt, λ reply any. tt) (requested_line stream)
+  alive_line stream (Some g) = step_line stream g g.step
+
   next_by_line : (stream : PlainStream) (o : Option Change) → Nexts (next_by name stream o)
   next_by_line stream (Some c) = tt
-  next_by_line stream None =
-      either_line stream.ended (Done (over STATE_CHANGED stream)) (if reaches_end stream.until stream.marked then close_sent stream else place_requested name stream) tt
-      (either_line (reaches_end stream.until stream.marked) (close_sent stream) (place_requested name stream) (tt, λ reply any. tt) (tt, λ reply any. placed_line stream (place_said reply)))
+  next_by_line stream None = either_line stream.ended (Done (over STATE_CHANGED stream)) (alive_next name stream stream.gives) tt (alive_line stream stream.gives)
 
   next_line : (stream : PlainStream) → Nexts (next_frame name stream)
   unfolding next_frame

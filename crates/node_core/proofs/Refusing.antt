@@ -19,6 +19,7 @@ refuses_nobody W J step asks = record {
   outcomes = λ clock key outcome old out new x. x;
   frames = λ key f old out new x. x;
   pulls = λ frames key old out new x. x;
+  gives = λ frames key old out new x. x;
   shuts = λ key old out new x. x;
   dials = λ v piece old out new x. x;
   cuts = λ v old out new x. x;

@@ -65,6 +65,7 @@ abbrev pub IsProducers : Event → Type 0
 IsProducers (event.Marked stream start end flags) = Unit {0}
 IsProducers (event.Item stream seq act key) = Unit {0}
 IsProducers (event.Finished stream reason) = Unit {0}
+IsProducers (event.Stated stream role) = Unit {0}
 IsProducers other = IsAnswers other
 
 -- ---- bytes, and outcomes

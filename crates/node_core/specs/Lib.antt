@@ -9,6 +9,9 @@ pub mod EndingLaws
 pub mod PieceLaws
 pub mod CallLaws
 pub mod ClientLaws
+pub mod GivingUp
+pub mod GivingLaws
+pub mod GivingRows
 pub mod Handing
 pub mod Conduct
 pub mod Outs

@@ -1,8 +1,9 @@
 //! The connections that a node keeps.
 ghost use Rattle.std.specs.Prelude.{◌≡◌, ◌<◌, ℕ, true, IfOk, OnErr, None, Some};
 ghost use Rattle.{std.specs.Option.{option_map}, node_core.specs.Outcomes.{new_conn, is_spent, LeftOf, conn_ended, conn_awaits, kept_unless, ConnFed, ConnHeard, ConnStopped, ConnPosted, ConnUnposted, ConnAnswered, ConnUnanswered, ConnPulled, ConnHalted, ConnShut}};
-ghost use Rattle.slab.specs.Slab.{get, HasRoomFor, Updates};
+ghost use Rattle.{node_core.specs.GivingUp.{ConnGaveUp, ConnUngiven, gave_of}, slab.specs.Slab.{get, HasRoomFor, Updates}};
 
+use crate::giving::Gave;
 use crate::{Alloc, Client, NodeOut, Peer};
 use client_session::Who;
 use dcp_producer::Desk;
@@ -141,6 +142,28 @@ impl Conn {
         match self {
             Conn::Client(client) => client.pull(vbs, frames),
             Conn::Peer(peer) => peer.pull(alloc, vbs, frames),
+        }
+    }
+
+    /// Has those of its streams that hand vBuckets of the node `node` over give them up, where so many
+    /// frames are to be put next. A client's has none that does.
+    #[tactic(auto, using(vb_calls::proofs::Runs::began_none))]
+    pub fn give_up<A: VbAccess>(
+        &mut self,
+        alloc: Global,
+        vbs: &mut A,
+        node: u8,
+        frames: u32,
+    ) -> Alloc<Gave>
+        ensures ok { IfOk result (λ gave. ConnGaveUp A.step frames self.old vbs.old gave.given self.new vbs.new) }
+        ensures said { IfOk result (λ gave. gave ≡ gave_of node gave.given) }
+        ensures err { OnErr result (ConnUngiven A.step frames self.old vbs.old vbs.new) }
+        ensures spent { OnErr result (is_spent self.new ≡ true) }
+        ensures left { OnErr result (LeftOf self.old self.new) }
+    {
+        match self {
+            Conn::Client(_) => Ok(Gave::none(alloc)),
+            Conn::Peer(peer) => peer.give_up(alloc, vbs, node, frames),
         }
     }
 

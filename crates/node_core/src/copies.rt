@@ -96,6 +96,7 @@ pub fn copy_line(alloc: Global, line: &Event) -> Alloc<Event>
             key: key.clone()?,
         }),
         Event::Finished { stream, reason } => Ok(Event::Finished { stream, reason }),
+        Event::Stated { stream, role } => Ok(Event::Stated { stream, role }),
         _ => copy_answer(alloc, line),
     }
 }

@@ -11,6 +11,8 @@ mod conn;
 mod copies;
 mod dials;
 mod ending_laws;
+mod giving;
+mod giving_laws;
 mod laws;
 mod load_laws;
 mod node;
@@ -33,6 +35,9 @@ pub use client_laws::{
 pub use conn::{Conn, ConnKind};
 pub use dials::Dial;
 pub use ending_laws::{closed_sessions_are_let_go, refusals_end_dials};
+pub use giving_laws::{
+    given_vbuckets_in_numbers, vbuckets_are_given_up, waiters_of_given_up_vbuckets_are_told,
+};
 pub use laws::{
     dials_acknowledge, dials_end, dials_follow, dials_leave_other_vbuckets, first_records,
     flushes_are_refused, makings_in_numbers, node_limits, outcomes_are_told, promotions_in_numbers,

@@ -2,7 +2,7 @@
 ghost use Rattle.std.specs.Prelude.{◌≡◌, ◌≢◌, ◌<◌, ◌&&◌, ◌⊎◌, [], Ok, not, IfOk, OnErr, is_some};
 ghost use Rattle.node_core.specs.Calls.{branch_lines, ask_of_reply, ask_if, dial_requested};
 ghost use Rattle.node_core.specs.Outcomes.{value_at, Made, HalfMade, Opened, FedAt, Stopped, Heard, Unheard, AnsweredAt, Unanswered, PostedAt, Unposted, conn_awaits, DialDueAt, DialUndue, PulledAt, Halted, ShutAt, Dialed, DialedAs, DialFedAt, DialStopped, DialShutAt};
-ghost use Rattle.{node_core.specs.Outs.{is_gone, made_unless}, slab.specs.Slab.{get}, vb_calls.specs.Programs.{Began}, vb_calls.specs.State.{first_log}};
+ghost use Rattle.{node_core.specs.GivingUp.{GaveUpAt, Ungiven}, node_core.specs.Outs.{is_gone, made_unless}, slab.specs.Slab.{get}, vb_calls.specs.Programs.{Began}, vb_calls.specs.State.{first_log}};
 ghost use Rattle.{vb_types.specs.declared.journal.Record.TheVariants.{State}, vb_types.specs.declared.role.Role.TheVariants.{Active, Pending}};
 
 mod flushes;
@@ -12,6 +12,7 @@ mod settles;
 mod starts;
 
 use crate::conn::put_back;
+use crate::giving::{Gave, tell_given};
 use crate::out::bytes_of;
 use crate::{Alloc, Conn, ConnKind, Dial, NodeOut, Numbered};
 use bytes::{Bytes, BytesMut};
@@ -266,6 +267,31 @@ impl<A: VbAccess, J: Journals> Node<A, J> {
         let put = conn.pull(self.alloc, &mut self.vbs, frames);
         put_back(&mut self.conns, key, conn, false);
         put
+    }
+
+    /// Has those streams of a connection that hand vBuckets over give them up, where so many frames are to
+    /// be put next. Each vBucket that was given up is told dead, each connection is told which of its
+    /// streams ended with that, and who waits for durable writes there is to be told that their outcome
+    /// is not known. Nothing is written down, and a dial stays, also that of such a vBucket, which took
+    /// over by it. The call is refused exactly where no connection has that key. After an `Err` the
+    /// connection is spent, and no other was told.
+    #[tactic(auto, using(crate::proofs::Keys::updates_again))]
+    pub fn give_up(&mut self, key: usize, frames: u32) -> Alloc<NodeOut>
+        ensures ok { IfOk result (λ out. GaveUpAt A.step frames key (get self.old.conns key) self.old out self.new) }
+        ensures err { OnErr result (Ungiven A.step frames key self.old self.new) }
+    {
+        let Some(mut conn) = self.conns.try_remove(key) else {
+            return Ok(NodeOut::refused(self.alloc, Cause::LinkClosed));
+        };
+        let gave = conn.give_up(self.alloc, &mut self.vbs, self.number, frames);
+        put_back(&mut self.conns, key, conn, false);
+        let Gave {
+            given,
+            lines,
+            resolved,
+        } = gave?;
+        tell_given(&mut self.conns, given.as_slice());
+        Ok(NodeOut::done(self.alloc, lines, Bytes::new()).resolving(resolved))
     }
 
     /// Lets a connection go, spent or not, and closes its streams. It is refused where none is.

@@ -1,8 +1,9 @@
 //! A peer's connection.
 ghost use Rattle.std.specs.Prelude.{◌≡◌, false, true, [], IfOk, OnOk, OnErr};
 ghost use Rattle.{dcp_producer.specs.Ending.{end_closed}, node_core.specs.Outs.{peer_out, peer_result_by, pulled_by}, node_core.specs.Peers.{new_peer, peer_heard, peer_frames, peer_answered, peer_pulled, peer_ended}};
-ghost use Rattle.vb_calls.specs.Programs.{Ran, Began};
+ghost use Rattle.{node_core.specs.GivingUp.{gave_of, peer_gives_up}, vb_calls.specs.Programs.{Ran, Began}};
 
+use crate::giving::Gave;
 use crate::out::bytes_of;
 use crate::{Alloc, NodeOut};
 use dcp_producer::{Desk, Producer};
@@ -106,6 +107,34 @@ impl Peer {
         self.spent = false;
         let answer = Answer::Pulled(pulled.count, pulled.halt.why());
         Ok(NodeOut::told(alloc, pulled.events, out, answer))
+    }
+
+    /// Has the streams that hand vBuckets of the node `node` over give them up, where so many frames are
+    /// to be put next.
+    #[tactic(auto, using(vb_calls::proofs::Runs::runs))]
+    pub fn give_up<A: VbAccess>(
+        &mut self,
+        alloc: Global,
+        vbs: &mut A,
+        node: u8,
+        frames: u32,
+    ) -> Alloc<Gave>
+        ensures ok { IfOk result (λ gave. Ran A.step (peer_gives_up frames self.old.plain) vbs.old (record { peer = self.new.plain; given = gave.given }) vbs.new) }
+        ensures said { IfOk result (λ gave. gave ≡ gave_of node gave.given) }
+        ensures kept { IfOk result (λ gave. (self.old.spent ≡ false) × (self.new.spent ≡ false)) }
+        ensures err { OnErr result (Began A.step (peer_gives_up frames self.old.plain) vbs.old vbs.new) }
+        ensures spent { OnErr result (self.new.spent ≡ true) }
+        ensures over { OnErr result (self.old.spent ≡ true → vbs.new ≡ vbs.old) }
+        ensures same { OnErr result (self.old.spent ≡ true → self.new ≡ self.old) }
+        ensures desk { self.new.plain.producer.desk ≡ self.old.plain.producer.desk }
+    {
+        if std::mem::replace(&mut self.spent, true) {
+            return Err(AllocError);
+        }
+        let given = self.producer.give_up(vbs, frames)?;
+        let gave = Gave::of(alloc, node, given)?;
+        self.spent = false;
+        Ok(gave)
     }
 
     /// Ends the streams that a change of role at the vBucket `vb` ended.

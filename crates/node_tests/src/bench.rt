@@ -8,7 +8,7 @@ use mcbp_frame::Frame;
 use node_core::{AdminCall, ConnKind, Node, NodeOut};
 use std::alloc::{AllocError, Global};
 use std::test::Fail;
-use vb_calls::{Resolution, Resolved};
+use vb_calls::{Resolution, Resolved, VbAccess};
 use vb_disk::MemDisk;
 use vb_events::{Answer, Cause, Event, StreamName};
 use vb_types::{FlushPart, Listed, Role};
@@ -39,6 +39,8 @@ pub enum Do {
     Tick(u64),
     /// Has the dial of the vBucket 3 acknowledge what is due.
     Acknowledge,
+    /// Has the connection under this key give vBuckets up, where so many frames are to be put next.
+    GiveUp(usize, u32),
     /// Has the connection under this key put so many frames.
     Pull(usize, u32),
     Shut(usize),
@@ -77,20 +79,21 @@ fn chain_of(alloc: Global, active: u8, other: u8) -> Result<Option<Chain>, Alloc
 
 /// A node, and the lines so far.
 #[derive(Drop)]
-struct Bench {
+pub struct Bench<A> {
     alloc: Global,
-    node: Node<VbMap, DiskJournals<MemDisk>>,
+    node: Node<A, DiskJournals<MemDisk>>,
     told: Vec<Told>,
 }
 
-impl Bench {
-    /// A node of this number with no vBucket, and with a blank journal for the vBucket 3.
-    fn new(alloc: Global, number: u8) -> Result<Bench, AllocError> {
+impl<A: VbAccess + Drop> Bench<A> {
+    /// A node of this number over these vBuckets, of which there is none, and with a blank journal for
+    /// the vBucket 3.
+    pub fn over(alloc: Global, number: u8, vbs: A) -> Result<Bench<A>, AllocError> {
         let mut disks = DiskJournals::new(alloc);
         disks.add(3, MemDisk::new(alloc)?)?;
         Ok(Bench {
             alloc,
-            node: Node::over(alloc, number, VbMap::new(alloc), disks),
+            node: Node::over(alloc, number, vbs, disks),
             told: Vec::new(alloc),
         })
     }
@@ -125,7 +128,7 @@ impl Bench {
     }
 
     /// Has each frame of these bytes answered, and hands all answers out.
-    fn hear(&mut self, key: usize, piece: &[u8]) -> Result<NodeOut, AllocError> {
+    pub fn hear(&mut self, key: usize, piece: &[u8]) -> Result<NodeOut, AllocError> {
         let mut answers = BytesMut::new(self.alloc);
         let frames = self.node.hear(key, piece)?;
         for frame in &frames {
@@ -161,6 +164,7 @@ impl Bench {
             Do::Chain(other) => self.set_chain(other),
             Do::Tick(clock) => self.node.tick(3, clock),
             Do::Acknowledge => self.node.acknowledge(3),
+            Do::GiveUp(key, frames) => self.node.give_up(key, frames),
             Do::Pull(key, frames) => self.node.pull(key, frames),
             Do::Shut(key) => Ok(self.node.shut(key)),
             Do::Dial => self.node.dial(3, 9, 0, false, true),
@@ -180,15 +184,72 @@ impl Bench {
         Ok(())
     }
 
+    /// What the node hands out. Keeps the lines.
+    pub fn done(&mut self, what: Do) -> Result<NodeOut, AllocError> {
+        let out = self.make(what)?;
+        match self.keep(out.events.as_slice()) {
+            Ok(()) => Ok(out),
+            Err(stop) => {
+                drop(out);
+                Err(stop)
+            }
+        }
+    }
+
+    /// Gives the dial of the vBucket 3 these bytes. Keeps the lines.
+    pub fn down(&mut self, piece: &[u8]) -> Result<NodeOut, AllocError> {
+        let out = self.node.feed_dial(3, piece)?;
+        match self.keep(out.events.as_slice()) {
+            Ok(()) => Ok(out),
+            Err(stop) => {
+                drop(out);
+                Err(stop)
+            }
+        }
+    }
+
+    /// Tells the first connections of an outcome, each that awaits it. Keeps the lines.
+    fn post(&mut self, outcome: Resolved) -> Result<(), AllocError> {
+        for key in 0..4 {
+            if self.node.awaits(key, outcome.waiter) {
+                let out = self.node.post(key, outcome, CLOCK)?;
+                let kept = self.keep(out.events.as_slice());
+                drop(out);
+                kept?;
+            }
+        }
+        Ok(())
+    }
+
+    fn post_all(&mut self, outcomes: &[Resolved]) -> Result<(), AllocError> {
+        for outcome in outcomes {
+            self.post(*outcome)?;
+        }
+        Ok(())
+    }
+
+    /// Has the connection under this key give vBuckets up, tells who waited there, and has it put so
+    /// many frames. Keeps the lines.
+    pub fn pump(&mut self, key: usize, frames: u32) -> Result<NodeOut, AllocError> {
+        let given = self.done(Do::GiveUp(key, frames))?;
+        let posted = self.post_all(given.resolved.as_slice());
+        drop(given);
+        posted?;
+        self.done(Do::Pull(key, frames))
+    }
+
     /// Whether it went as told. Keeps the lines.
     fn went(&mut self, step: &Step) -> Result<bool, AllocError> {
         let (what, bytes, answer) = *step;
-        let out = self.make(what)?;
-        let kept = self.keep(out.events.as_slice());
+        let out = self.done(what)?;
         let is_so = out.out.as_slice() == bytes && out.answer == answer;
         drop(out);
-        kept?;
         Ok(is_so)
+    }
+
+    /// Whether these are all lines so far.
+    pub fn told(&self, lines: &[Told]) -> bool {
+        self.told.as_slice() == lines
     }
 
     /// The place of the first step that goes otherwise.
@@ -218,7 +279,7 @@ pub type Talk = (u8, &'static [Step], &'static [Told]);
 /// The place of the first step of a talk that goes otherwise, at a node with no vBucket.
 pub fn first_other(alloc: Global, talk: &Talk) -> Result<Option<usize>, Fail> {
     let (number, steps, lines) = *talk;
-    let bench = Bench::new(alloc, number)?;
+    let bench = Bench::over(alloc, number, VbMap::new(alloc))?;
     Ok(bench.run(steps, lines)?)
 }
 

@@ -13,7 +13,11 @@ mod durable;
 #[cfg(test)]
 mod frames;
 #[cfg(test)]
+mod handovers;
+#[cfg(test)]
 mod lines;
+#[cfg(test)]
+mod losing;
 #[cfg(test)]
 mod nodes;
 #[cfg(test)]

@@ -26,6 +26,8 @@ pub enum Told {
     Put(u64),
     /// A stream's end was put, with this reason.
     Finished(u32),
+    /// This role was put on a stream that hands a vBucket over.
+    Stated(Role),
     Adopted,
     /// The snapshot that a consumer is in now.
     Ranged(u64, u64),
@@ -55,6 +57,7 @@ pub fn outline(line: &Event) -> Told {
         Event::Marked { start, end, .. } => Told::Marked(*start, *end),
         Event::Item { seq, .. } => Told::Put(*seq),
         Event::Finished { reason, .. } => Told::Finished(*reason),
+        Event::Stated { role, .. } => Told::Stated(*role),
         Event::Adopted { .. } => Told::Adopted,
         Event::Ranged { ss, se, .. } => Told::Ranged(*ss, *se),
         Event::Got { change, .. } => Told::Got(change.seq),

@@ -1,5 +1,5 @@
 -- a producer keeps its place, and a consumer what it dialed
-use Rattle.std.proofs.Common.{◌≡◌, ℕ, zero, suc, Bool, true, false, List, [], ◌∷◌, ◌++◌, length, refl, ◌∙◌, Option, Some, None}
+use Rattle.std.proofs.Common.{◌≡◌, ℕ, zero, suc, Bool, true, false, List, [], ◌∷◌, ◌++◌, length, map, refl, ◌∙◌, Option, Some, None}
 use Rattle.std.specs.Prelude.{◌==◌, ◌||◌, codes, if◌then◌else◌, nat_lt, Result, Ok, Err, ◌^◌, ◌-◌}
 use Rattle.std.specs.Str.{bytes_eq}
 use Rattle.std.specs.List.{list_any}
@@ -46,7 +46,7 @@ use Rattle.dcp_producer.specs.declared.halt.Halt.TheVariants as halt
 use Rattle.dcp_producer.specs.declared.next_frame.NextFrame.TheVariants as next
 use Rattle.dcp_producer.specs.Frames.{Next, next_frame}
 use Rattle.dcp_producer.specs.Producers.{PlainStream, Served, begun, is_open, stream_at, without_stream}
-use Rattle.dcp_producer.specs.Serving.{bytes_acknowledged as bytes_taken_back, status_sent, open_refusal, opened_unless, control_answered, controlled, controlled_as, sized, sized_as, ask_verdict, next_stream, opens, with_asked, with_granted, stream_answered, opening_requested, refusal_requested, stream_request, once_open, closed_sent, stream_closed, log_given, log_sent, log_answered, log_requested, message_answered, row_answered, read_answered, frame_answered, counted_by, count_answered, count_requested, acknowledged}
+use Rattle.dcp_producer.specs.Serving.{bytes_acknowledged as bytes_taken_back, status_sent, open_refusal, opened_unless, control_answered, controlled, controlled_as, sized, sized_as, ask_verdict, next_stream, opens, with_asked, with_granted, stream_answered, opening_requested, refusal_requested, stream_request, once_open, closed_sent, stream_closed, log_given, log_sent, log_answered, log_requested, message_answered, row_answered, read_answered, frame_answered, heard, is_taken, response_heard, counted_by, count_answered, count_requested, acknowledged}
 use Rattle.dcp_producer.specs.Pulling.{QuietOnes, Pulling, pull_of, none_quiet, is_quiet, past_turn, stream_in_turn, came, stream_asked, turn_had, one_turn, turns_came, one_frame, pulled, frames_put}
 use Rattle.takeover.specs.declared.take_over.TakeStep.{TakeStep}
 use Rattle.takeover.specs.declared.take_over.TakeStep.TheVariants.{Pend, Own}
@@ -209,8 +209,12 @@ module _ (desk : Desk) where
   unfolding frame_answered
   frame_keeps f s e = by (f.magic == RESPONSE) (list_any (λ o. o == f.opcode) dcp_opcodes)
     where
-      by : (a b : Bool) → Keeps (if a then Done s else if b then read_answered f (read_of f) s else Done (status_sent f status.UnknownCommand s))
-      by true b = e
+      heard_at : (b : Bool) → At (if b then record s { end = record s.end { streams = map (heard f.opaque) s.end.streams } } else s)
+      heard_at true = e
+      heard_at false = e
+
+      by : (a b : Bool) → Keeps (if a then Done (response_heard f s) else if b then read_answered f (read_of f) s else Done (status_sent f status.UnknownCommand s))
+      by true b = heard_at (is_taken f)
       by false true = read_keeps f (read_of f) s e
       by false false = status_at f _ s e
 
