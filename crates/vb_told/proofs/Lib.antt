@@ -1,0 +1,3 @@
+pub mod Runs
+mod Fronts
+mod Rows
