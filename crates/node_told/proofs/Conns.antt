@@ -1,0 +1,108 @@
+-- the calls of a node that are of a connection
+use Rattle.std.proofs.Common.{◌≡◌, ℕ, List, Option, Some, None, ap}
+use Rattle.slab.specs.Slab.{get}
+use Rattle.mcbp_frame.specs.declared.frame.Frame.{Frame}
+use Rattle.vb_calls.specs.declared.calls.VbCall.{VbCall}
+use Rattle.vb_calls.specs.declared.calls.VbReply.{VbReply}
+use Rattle.vb_calls.specs.declared.calls.Resolved.{Resolved}
+use Rattle.vb_told.specs.Laws.{ListsCalls}
+use Rattle.node_core.specs.declared.conn.Conn.{Conn}
+use Rattle.node_core.specs.declared.conn.Conn.TheVariants as conn
+use Rattle.node_core.specs.declared.node.Node.{Node}
+use Rattle.node_core.specs.declared.out.NodeOut.{NodeOut}
+use Rattle.node_core.specs.Clients.{Handling, ClientPulled, client_fed, client_posted, client_pulled}
+use Rattle.node_core.specs.Outcomes.{FedAt, ConnFed, ConnStopped, PostedAt, ConnPosted, ConnUnposted, AnsweredAt, ConnAnswered, ConnUnanswered, PulledAt, ConnPulled, ConnHalted}
+use Rattle.node_core.specs.Outs.{client_out, client_pull_out, peer_out, pull_out}
+use Rattle.node_core.specs.Peers.{PeerResult, PullResult, peer_answered, peer_pulled}
+use Rattle.node_told.specs.Told.{PieceTold, PieceBegan, OutcomeTold, OutcomeBegan, AnswerTold, AnswerBegan, PullTold, PullBegan}
+use Rattle.node_told.specs.Laws.{PiecesAreTold, OutcomesAreTold, AnswersAreTold, PullsAreTold, HearingCallsNothing}
+use Rattle.node_told.proofs.Ran.{quiet, told, first}
+
+abbrev vbs_of : {W J : Type 0} → Node W J → W
+vbs_of n = n.vbs
+
+module _ {W J : Type 0} (mine : W → ℕ → List (VbCall × VbReply)) where
+  pub hearing : HearingCallsNothing J mine
+  hearing = record {
+    heard = λ key piece old frames new h. quiet mine old.vbs new.vbs (ap vbs_of h.rest);
+    unheard = λ key old new u. quiet mine old.vbs new.vbs (ap vbs_of u.rest);
+  }
+
+module _ {W : Type 0} (step : W → ℕ → VbCall → Option VbReply → W → Type 0) (mine : W → ℕ → List (VbCall × VbReply)) (lists : ListsCalls step mine) where
+  conn_fed : (clock : ℕ) (piece : List ℕ) (found : Conn) (old : W) (out : NodeOut) (left : Conn) (new : W) → ConnFed step clock piece found old out left new → PieceTold mine clock piece (Some found) out old new
+  conn_fed clock piece (conn.Client kept) old out (conn.Client left) new f = told step mine lists (client_fed clock piece kept.plain) (λ (h : Handling). out ≡ client_out h) old f.2.0 new f.2.1 f.2.2
+  conn_fed clock piece (conn.Client kept) old out (conn.Peer left) new f = absurd f
+  conn_fed clock piece (conn.Peer kept) old out left new f = (f.1, quiet mine old new f.0)
+
+  stopped : (clock : ℕ) (piece : List ℕ) (found : Conn) (old new : W) → ConnStopped step clock piece found old new → PieceBegan mine clock piece found old new
+  stopped clock piece (conn.Client kept) old new s = first step mine lists (client_fed clock piece kept.plain) old new s.1
+  stopped clock piece (conn.Peer kept) old new s = s
+
+  conn_posted : (clock : ℕ) (outcome : Resolved) (found : Conn) (old : W) (out : NodeOut) (left : Conn) (new : W) → ConnPosted step clock outcome found old out left new → OutcomeTold mine clock outcome (Some found) out old new
+  conn_posted clock outcome (conn.Client kept) old out (conn.Client left) new f = told step mine lists (client_posted clock outcome kept.plain) (λ (h : Handling). out ≡ client_out h) old f.2.0 new f.2.1 f.2.2
+  conn_posted clock outcome (conn.Client kept) old out (conn.Peer left) new f = absurd f
+  conn_posted clock outcome (conn.Peer kept) old out left new f = (f.1, quiet mine old new f.0)
+
+  unposted : (clock : ℕ) (outcome : Resolved) (found : Conn) (old new : W) → ConnUnposted step clock outcome found old new → OutcomeBegan mine clock outcome found old new
+  unposted clock outcome (conn.Client kept) old new s = first step mine lists (client_posted clock outcome kept.plain) old new s.1
+  unposted clock outcome (conn.Peer kept) old new s = s
+
+  conn_answered : (f : Frame) (found : Conn) (old : W) (out : NodeOut) (left : Conn) (new : W) → ConnAnswered step f found old out left new → AnswerTold mine f (Some found) out old new
+  conn_answered f (conn.Peer kept) old out (conn.Peer left) new a = told step mine lists (peer_answered f kept.plain) (λ (r : PeerResult). out ≡ peer_out r) old a.2.0 new a.2.1 a.2.2
+  conn_answered f (conn.Peer kept) old out (conn.Client left) new a = absurd a
+  conn_answered f (conn.Client kept) old out left new a = (a.1, quiet mine old new a.0)
+
+  unanswered : (f : Frame) (found : Conn) (old new : W) → ConnUnanswered step f found old new → AnswerBegan mine f found old new
+  unanswered f (conn.Peer kept) old new s = first step mine lists (peer_answered f kept.plain) old new s.1
+  unanswered f (conn.Client kept) old new s = s
+
+  conn_pulled : (frames : ℕ) (found : Conn) (old : W) (out : NodeOut) (left : Conn) (new : W) → ConnPulled step frames found old out left new → PullTold mine frames (Some found) out old new
+  conn_pulled frames (conn.Client kept) old out (conn.Client left) new p = told step mine lists (client_pulled frames kept.plain) (λ (r : ClientPulled). out ≡ client_pull_out r) old p.2.0 new p.2.1 p.2.2
+  conn_pulled frames (conn.Client kept) old out (conn.Peer left) new p = absurd p
+  conn_pulled frames (conn.Peer kept) old out (conn.Peer left) new p = told step mine lists (peer_pulled frames kept.plain) (λ (r : PullResult). out ≡ pull_out r) old p.2.0 new p.2.1 p.2.2
+  conn_pulled frames (conn.Peer kept) old out (conn.Client left) new p = absurd p
+
+  halted : (frames : ℕ) (found : Conn) (old new : W) → ConnHalted step frames found old new → PullBegan mine frames found old new
+  halted frames (conn.Client kept) old new s = first step mine lists (client_pulled frames kept.plain) old new s.1
+  halted frames (conn.Peer kept) old new s = first step mine lists (peer_pulled frames kept.plain) old new s.1
+
+module _ {W J : Type 0} (step : W → ℕ → VbCall → Option VbReply → W → Type 0) (mine : W → ℕ → List (VbCall × VbReply)) (lists : ListsCalls step mine) where
+  fed : (clock key : ℕ) (piece : List ℕ) (found : Option Conn) (old : Node W J) (out : NodeOut) (new : Node W J) → FedAt step clock key piece found old out new → PieceTold mine clock piece found out old.vbs new.vbs
+  fed clock key piece None old out new f = (f.0, quiet mine old.vbs new.vbs (ap vbs_of f.1))
+  fed clock key piece (Some found) old out new f = conn_fed step mine lists clock piece found old.vbs out f.left new.vbs f.fed
+
+  pub pieces : PiecesAreTold J step mine
+  pieces = record {
+    fed = λ clock key piece old out new f. fed clock key piece (get old.conns key) old out new f;
+    stopped = λ clock key piece old new s. (s.found, s.had, stopped step mine lists clock piece s.found old.vbs new.vbs s.stopped);
+  }
+
+  posted : (clock key : ℕ) (outcome : Resolved) (found : Option Conn) (old : Node W J) (out : NodeOut) (new : Node W J) → PostedAt step clock key outcome found old out new → OutcomeTold mine clock outcome found out old.vbs new.vbs
+  posted clock key outcome None old out new f = (f.0, quiet mine old.vbs new.vbs (ap vbs_of f.1))
+  posted clock key outcome (Some found) old out new f = conn_posted step mine lists clock outcome found old.vbs out f.left new.vbs f.posted
+
+  pub outcomes : OutcomesAreTold J step mine
+  outcomes = record {
+    posted = λ clock key outcome old out new f. posted clock key outcome (get old.conns key) old out new f;
+    stopped = λ clock key outcome old new s. (s.found, s.had, unposted step mine lists clock outcome s.found old.vbs new.vbs s.stopped);
+  }
+
+  answered : (key : ℕ) (f : Frame) (found : Option Conn) (old : Node W J) (out : NodeOut) (new : Node W J) → AnsweredAt step key f found old out new → AnswerTold mine f found out old.vbs new.vbs
+  answered key f None old out new a = (a.0, quiet mine old.vbs new.vbs (ap vbs_of a.1))
+  answered key f (Some found) old out new a = conn_answered step mine lists f found old.vbs out a.left new.vbs a.answered
+
+  pub answers : AnswersAreTold J step mine
+  answers = record {
+    answered = λ key f old out new a. answered key f (get old.conns key) old out new a;
+    stopped = λ key f old new s. (s.found, s.had, unanswered step mine lists f s.found old.vbs new.vbs s.stopped);
+  }
+
+  pulled : (frames key : ℕ) (found : Option Conn) (old : Node W J) (out : NodeOut) (new : Node W J) → PulledAt step frames key found old out new → PullTold mine frames found out old.vbs new.vbs
+  pulled frames key None old out new p = (p.0, quiet mine old.vbs new.vbs (ap vbs_of p.1))
+  pulled frames key (Some found) old out new p = conn_pulled step mine lists frames found old.vbs out p.left new.vbs p.pulled
+
+  pub pulls : PullsAreTold J step mine
+  pulls = record {
+    pulled = λ frames key old out new p. pulled frames key (get old.conns key) old out new p;
+    stopped = λ frames key old new s. (s.found, s.had, halted step mine lists frames s.found old.vbs new.vbs s.halted);
+  }

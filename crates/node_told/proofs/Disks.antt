@@ -1,0 +1,57 @@
+-- the calls of a node that ask its journals too
+use Rattle.std.proofs.Common.{◌≡◌, ◌⊎◌, inl, inr, ℕ, List, Option, Some, None, Bool, true, false, ap}
+use Rattle.vb_calls.specs.declared.calls.VbCall.{VbCall}
+use Rattle.vb_calls.specs.declared.calls.VbReply.{VbReply}
+use Rattle.vb_calls.specs.Flushes.{wrote_of}
+use Rattle.vb_calls.specs.Shelves.{Ask, Fate, Got}
+use Rattle.vb_events.specs.declared.event.Cause.TheVariants as cause
+use Rattle.vb_types.specs.declared.role.Role.{Role}
+use Rattle.vb_told.specs.Laws.{ListsCalls, ListsNoMakes}
+use Rattle.node_core.specs.declared.node.Node.{Node}
+use Rattle.node_core.specs.declared.out.NodeOut.{NodeOut}
+use Rattle.node_core.specs.Admin.{AdminResult, admin_job}
+use Rattle.node_core.specs.Dials.{KeptDial, DialResult, dial_bytes}
+use Rattle.node_core.specs.Flushing.{FlushResult, flush_at}
+use Rattle.node_core.specs.Outcomes.{value_at, DialFedAt, MadeIf}
+use Rattle.node_core.specs.Outs.{refused_out, made_out, flush_out, dial_out, dial_ended, admin_out}
+use Rattle.node_told.specs.Told.{DialTold}
+use Rattle.node_told.specs.Laws.{DialsAreTold, OperatorsAreTold, FlushesAreTold, MakesAreTold}
+use Rattle.node_told.proofs.Ran.{quiet, told_job, first_job}
+
+abbrev vbs_of : {W J : Type 0} → Node W J → W
+vbs_of n = n.vbs
+
+module _ {W J : Type 0} (step : W → ℕ → VbCall → Option VbReply → W → Type 0) (asks : J → ℕ → (ask : Ask) → Got ask → J → Type 0) (mine : W → ℕ → List (VbCall × VbReply)) (lists : ListsCalls step mine) where
+  dial_fed : (v : ℕ) (piece : List ℕ) (found : Option KeptDial) (old : Node W J) (out : NodeOut) (new : Node W J) → DialFedAt step asks v piece found old out new → DialTold mine piece found out old.vbs new.vbs
+  dial_fed v piece None old out new f = (f.0, quiet mine old.vbs new.vbs (ap vbs_of f.1))
+  dial_fed v piece (Some found) old out new f = told_job step mine lists asks (dial_bytes piece found.plain) (λ (r : DialResult). out ≡ dial_out r) old.vbs old.disks f.told new.vbs new.disks f.ran f.said
+
+  pub dials : DialsAreTold step asks mine
+  dials = record {
+    fed = λ v piece old out new f. dial_fed v piece (value_at old.dials v) old out new f;
+    stopped = λ v piece old new s. (s.found, s.had, first_job step mine lists asks (dial_bytes piece s.found.plain) old.vbs old.disks new.vbs new.disks s.began);
+  }
+
+  pub operators : OperatorsAreTold step asks mine
+  operators = record {
+    carried_out = λ v asked old out new a. told_job step mine lists asks (admin_job old.number v asked) (λ (r : AdminResult). out ≡ admin_out (dial_ended r.ended (value_at old.dials v)) r) old.vbs old.disks a.told new.vbs new.disks a.ran a.said;
+    stopped = λ v asked old new began. first_job step mine lists asks (admin_job old.number v asked) old.vbs old.disks new.vbs new.disks began;
+  }
+
+  pub flushes : FlushesAreTold step asks mine
+  flushes = record {
+    made = λ v part old out new w. told_job step mine lists asks (flush_at old.number v part) (λ (r : FlushResult). out ≡ flush_out r) old.vbs old.disks w.told new.vbs new.disks w.ran w.said;
+    stopped = λ v part old new began. first_job step mine lists asks (flush_at old.number v part) old.vbs old.disks new.vbs new.disks began;
+  }
+
+module _ {W J : Type 0} (made : W → ℕ → ℕ → Role → ℕ → Bool → W → Type 0) (asks : J → ℕ → (ask : Ask) → Got ask → J → Type 0) (mine : W → ℕ → List (VbCall × VbReply)) (lists : ListsNoMakes made mine) where
+  noted : (n v : ℕ) (role : Role) (uuid : ℕ) (fresh : Bool) (old : J) (out : NodeOut) (new : J) → MadeIf asks n v role uuid fresh old out new
+      → ((fate : Fate) × (out ≡ made_out n v role uuid (wrote_of fate))) ⊎ (out ≡ refused_out cause.VbExists)
+  noted n v role uuid true old out new m = inl (m.0, m.2)
+  noted n v role uuid false old out new m = inr m.1
+
+  pub makes : MakesAreTold made asks mine
+  makes = record {
+    noted = λ v role uuid old out new m. (noted old.number v role uuid m.fresh old.disks out new.disks m.noted, lists old.vbs v old.number role uuid m.fresh new.vbs m.made_if);
+    stopped = λ v role uuid old new h. lists old.vbs v old.number role uuid true new.vbs h.made_it;
+  }

@@ -1,0 +1,56 @@
+//! What holds of a node over every access that tells its calls, as one over seats does: each law is of
+//! one call of `Node`, by that call's own clauses, as the contract of a function that does nothing.
+ghost use Rattle.std.specs.Prelude.{ℕ, List};
+ghost use Rattle.vb_calls.specs.declared.calls.VbCall.{VbCall};
+ghost use Rattle.vb_calls.specs.declared.calls.VbReply.{VbReply};
+ghost use Rattle.vb_told.specs.Laws.{ListsCalls, ListsNoMakes};
+ghost use Rattle.node_told.specs.Laws.{AnswersAreTold, DialsAreTold, FlushesAreTold, HearingCallsNothing, MakesAreTold, OperatorsAreTold, OutcomesAreTold, PiecesAreTold, PullsAreTold};
+
+use vb_calls::{Journals, VbAccess};
+
+/// `feed`: a client's connection made its program's calls, with the replies that the lists gained, and
+/// hands out what that comes to; where memory failed the first of them. No other connection calls.
+pub fn pieces_are_told<A: VbAccess, J: Journals>()
+    ensures { (mine : A → ℕ → List (VbCall × VbReply)) → ListsCalls A.step mine → PiecesAreTold J A.step mine }
+{}
+
+/// `hear`: a peer's bytes are cut into frames, and no vBucket is called.
+pub fn hearing_calls_nothing<A: VbAccess, J: Journals>()
+    ensures { (mine : A → ℕ → List (VbCall × VbReply)) → HearingCallsNothing J mine }
+{}
+
+/// `answer`: the same of a peer's frame.
+pub fn answers_are_told<A: VbAccess, J: Journals>()
+    ensures { (mine : A → ℕ → List (VbCall × VbReply)) → ListsCalls A.step mine → AnswersAreTold J A.step mine }
+{}
+
+/// `post`: the same of the outcome of a durable write.
+pub fn outcomes_are_told<A: VbAccess, J: Journals>()
+    ensures { (mine : A → ℕ → List (VbCall × VbReply)) → ListsCalls A.step mine → OutcomesAreTold J A.step mine }
+{}
+
+/// `pull`: the same of frames of a connection's streams.
+pub fn pulls_are_told<A: VbAccess, J: Journals>()
+    ensures { (mine : A → ℕ → List (VbCall × VbReply)) → ListsCalls A.step mine → PullsAreTold J A.step mine }
+{}
+
+/// `feed_dial`: a dial made its job's calls, with the replies that the lists gained and some answers of
+/// its journals, and hands out what that comes to.
+pub fn dials_are_told<A: VbAccess, J: Journals>()
+    ensures { (mine : A → ℕ → List (VbCall × VbReply)) → ListsCalls A.step mine → DialsAreTold A.step J.asks mine }
+{}
+
+/// `admin`: the same of an operator's call.
+pub fn operators_are_told<A: VbAccess, J: Journals>()
+    ensures { (mine : A → ℕ → List (VbCall × VbReply)) → ListsCalls A.step mine → OperatorsAreTold A.step J.asks mine }
+{}
+
+/// `flush`: the same of a step of writing a vBucket down.
+pub fn flushes_are_told<A: VbAccess, J: Journals>()
+    ensures { (mine : A → ℕ → List (VbCall × VbReply)) → ListsCalls A.step mine → FlushesAreTold A.step J.asks mine }
+{}
+
+/// `make_vb`: no list gains a call, whether a vBucket was made, was there, or memory failed behind it.
+pub fn makes_are_told<A: VbAccess, J: Journals>()
+    ensures { (mine : A → ℕ → List (VbCall × VbReply)) → ListsNoMakes A.made mine → MakesAreTold A.made J.asks mine }
+{}
