@@ -1,0 +1,9 @@
+pub mod Writes
+pub mod Sums
+pub mod Texts
+pub mod Limits
+pub mod Ledgers
+pub mod Merging
+pub mod Histories
+pub mod Laws
+pub mod Rows
