@@ -33,14 +33,16 @@ use Rattle.vb_types.specs.declared.write.Op.{Op}
 use Rattle.vb_types.specs.declared.write.Op.TheVariants as op
 use Rattle.vb_types.specs.declared.write.Write.{Write}
 use Rattle.branch_model.specs.Histories.{last_seq}
-use Rattle.transcript_law.specs.Checked.{AllPass, Checked, CheckedAck, CheckedChange, CheckedCount, CheckedEnd, CheckedFrom, CheckedItem, CheckedLine, CheckedMark, CheckedReply, CheckedShow, IsBacked, OfClient, OfLink, complete_number}
+use Rattle.transcript_law.specs.Checked.{AllPass, Checked, CheckedAck, CheckedChange, CheckedCount, CheckedEnd, CheckedFrom, CheckedItem, CheckedLine, CheckedMark, CheckedReply, CheckedShow, CheckedState, IsBacked, OfClient, OfLink, complete_number}
 use Rattle.transcript_law.specs.Chronicles.{Chronicle, Conns, CountsKnown, ItemLine, after_group, after_line, ahead, at_line, conns_line, empty_chronicle}
 use Rattle.transcript_law.specs.ClientStreams.{ClientKnown, ClientStream, stream_view}
 use Rattle.transcript_law.specs.Clients.{Heard}
 use Rattle.transcript_law.specs.LawfulAnswers.{serving, Answers, AnswersFault, FitsBy, FitsDurable, FitsFrame, FitsNumbered, FitsRequest, IsCommitted, IsStatus, IsWhyRefused, LacksMajority, LawfulReply}
 use Rattle.transcript_law.specs.LawfulClients.{IsActive, IsPut, LawfulClientEnd, LawfulClientItem, LawfulClientMark, ReachesMeant, StartsAt}
 use Rattle.transcript_law.specs.LawfulMessages.{moment_of}
-use Rattle.transcript_law.specs.Lawfulness.{Fulfils, IsHeldIfCommitted, Lawful, LawfulAcknowledged, LawfulChange, LawfulCounted, LawfulFinish, LawfulFrom, LawfulGroups, LawfulItem, LawfulLine, LawfulMark, LawfulShown, LinesFrom, ShownLine, next_marker_start, reach_after, stream_history}
+use Rattle.transcript_law.specs.Lawfulness.{Fulfils, IsHeldIfCommitted, Lawful, LawfulAcknowledged, LawfulChange, LawfulCounted, LawfulFinish, LawfulFrom, LawfulGroups, LawfulItem, LawfulLine, LawfulMark, LawfulShown, LawfulState, LinesFrom, ShownLine, next_marker_start, reach_after, stream_history}
+use Rattle.transcript_law.proofs.Words.{eq-eqb}
+use Rattle.transcript_law.specs.LinesTold.{is_dial_of}
 use Rattle.transcript_law.specs.Majorities.{IsHeldByMost}
 use Rattle.transcript_law.specs.Questions.{Question, question_of}
 use Rattle.transcript_law.specs.StreamLaws.{LawfulSaid}
@@ -77,6 +79,9 @@ link_mark r l start end flags (g, stream, m, memory) = (
 
 link_item : (r : Chronicle) (l : ℕ) (item : ItemLine) → LawfulItem r (name.Link l) item → OfLink r l (λ g. CheckedItem g.last item)
 link_item r l item (g, b, stream, opens, last, next) = (g, stream, (b, last, next))
+
+link_state : (r : Chronicle) (l : ℕ) (role : Role) → LawfulState r l role → OfLink r l (CheckedState r)
+link_state r l role s = (s.stream, (s.dial.vb, ap (is_dial_of s.dial.vb) s.takes_on.dialed ∙ eq-eqb s.dial.vb s.dial.vb refl, s.takes_on.stream), (s.whole, s.all))
 
 link_end : (r : Chronicle) (l reason : ℕ) → LawfulFinish r (name.Link l) reason → OfLink r l (λ g. CheckedEnd reason g.last)
 link_end r l reason (g, stream, opens, whole, by) = (g, stream, λ all. whole)
@@ -229,6 +234,8 @@ line_passes r (event.Item (name.Link k) seq act key) behind l = link_item r k _ 
 line_passes r (event.Item (name.Client n c) seq act key) behind l = client_item r (r.clients_at n c) n c _ behind l
 line_passes r (event.Finished (name.Link k) reason) behind l = link_end r k reason l
 line_passes r (event.Finished (name.Client n c) reason) behind l = client_end (r.clients_at n c) n c reason behind l
+line_passes r (event.Stated (name.Link k) role) behind l = link_state r k role l
+line_passes r (event.Stated (name.Client n c) role) behind l = l
 line_passes r (event.Rolled n v named to) behind l = l.1
 line_passes r (event.Acknowledged (name.Link k) n v seq saved) behind l = ack r k n v seq saved l
 line_passes r (event.Acknowledged (name.Client m c) n v seq saved) behind l = l

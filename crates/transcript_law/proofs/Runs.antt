@@ -9,7 +9,7 @@ use Rattle.transcript_law.proofs.Words.{with_branches, verb_step, world_step, gr
 use Rattle.transcript_law.proofs.Words.{consumer_node, option_map}
 use Rattle.transcript_law.proofs.{invariant.Seats.{seat}}
 use Rattle.transcript_law.proofs.invariant.Agreement.{ChangeFits, EntryFits, AgreesAt, top, Agrees}
-use Rattle.transcript_law.proofs.{verbs.FiredLines.{DialsTold}, verbs.NodeRows.{client_row_of, link_row, link_row_of, node_row, node_row_of}, verbs.AskingLines.{line_asked}, verbs.BreakLines.{line_breaks}, verbs.StoredLines.{line_next}, verbs.Undone.{leaves_none}, verbs.Rows.{AsTold, Row}, verbs.VbRows.{seal_told, vb_row_of}, verbs.Handing.{SealsKnown, hands_none}, invariant.LinkRows.{found_is_link}}
+use Rattle.transcript_law.proofs.{verbs.FiredLines.{DialsTold}, verbs.NodeRows.{client_row_of, link_row, link_row_of, node_row, node_row_of}, verbs.AskingLines.{line_asked}, verbs.BreakLines.{line_breaks}, verbs.StoredLines.{line_next}, verbs.Undone.{leaves_none}, verbs.Rows.{AsTold, Row}, verbs.VbRows.{vb_row_of}, verbs.Handing.{hands_none}, lines.Takeovers.{group_plain}, invariant.LinkRows.{found_is_link}}
 use Rattle.transcript_law.proofs.invariant.Ranged.{IsRanged, start_ranged}
 use Rattle.transcript_law.proofs.Words.{StreamName}
 use Rattle.transcript_law.specs.Feeding.{HasFed}
@@ -17,7 +17,7 @@ use Rattle.transcript_law.proofs.{invariant.ClientWorlds.{ConnsAre, start_conns}
 use Rattle.transcript_law.proofs.ends.{Ended.{all_linked, line_ends, new_there}, Links.{AllLinked}}
 use Rattle.transcript_law.proofs.{answers.Rests.{all_answered}, answers.Ended.{group_ended, serves_open}, indexers.Beside.{numbered}, invariant.Begun.{ServesOpen}, indexers.Closing.{begins_of}}
 use Rattle.cluster_model.specs.Clusters as cluster
-use Rattle.transcript_law.specs.LawfulAnswers.{IsStill}
+use Rattle.transcript_law.specs.{LawfulAnswers.{IsStill}, TakeoverNotes.{takeovers_after}, Takeovers.{NoneDialed}}
 
 -- before the first line
 start_hist : (u : ℕ) → hist cluster.start.tree u ≡ []
@@ -115,11 +115,6 @@ opens_told w r (c, a) = (λ n v vb known. (subst (AgreesAt r n v (c.nodes (seat 
 as_told_of : (w : PlainWorld) (r : Chronicle) → ConnsAre w r.conn_at → AllLinked w r.dial_of → IsRanged w → Agrees w r → AsTold w r
 as_told_of w r are linked ranged a = record { agrees = a; conns = are; linked = linked; ranged = ranged; rests = rests_told w r a; disks = opens_told w r a; shut = shut_told w r a; arms = arms_told w r a; dials = dials_told w r a }
 
--- it is told of each vBucket that is sealed whether it changed
-seals_known : (w : PlainWorld) (r : Chronicle) (number : ℕ) (line : Verb) → AllTold w r → SealsKnown r line (verb_step w number line).1.answer
-seals_known w r number (Verb.AtVb n v VbVerb.Seal) told = (seal_told w r n v None told).0
-seals_known w r number other told = tt
-
 -- what the law needs of each line, by what it names
 pub row_of : (w : PlainWorld) (number : ℕ) (line : Verb) → Row w line (verb_step w number line)
 row_of w number (Verb.Node n) = node_row w n
@@ -136,7 +131,7 @@ group_agrees w r number line fits ranged are serves calm a =
     let o = verb_step w number line in let row : Row w line o = row_of w number line in let r0 : Chronicle = at_line r number in
     let went = (row.goes r0 fits ranged calm (begins_of w number line r are serves a.1.clients.owed) (numbered w r number a)).1 in (
       went.0,
-      group_ended (with_branches o.1.events o.0) (after_verb r0 (after_lines (ahead r0 line o.1.answer) o.1.events) line o.1.events o.1.answer) (conns_verb (conns_lines r.conn_at o.1.events) line o.1.answer) (row.ranged fits ranged) (line_heard r.conn_at w number are line fits).1 went.0 went.1,
+      group_ended (with_branches o.1.events o.0) (after_verb r0 (after_lines (ahead r0 line o.1.answer) o.1.events) line o.1.events o.1.answer) (takeovers_after (after_verb r0 (after_lines (ahead r0 line o.1.answer) o.1.events) line o.1.events o.1.answer) line o.1.events o.1.answer) (conns_verb (conns_lines r.conn_at o.1.events) line o.1.answer) (row.ranged fits ranged) (line_heard r.conn_at w number are line fits).1 went.0 went.1,
     )
 
 -- nothing is entered then but for a connection that is open
@@ -151,10 +146,10 @@ start_serves line e n c shut = let same : record { number = 0; served = λ m d. 
 pub refused_keep : RefusedLinesKeep
 refused_keep w number line why rests said standing = let x = (row_of w number line).keeps rests why said standing in (x.0.0, x.0.1, x.0.2, x.1)
 
-lawful_from : (w : PlainWorld) (r : Chronicle) (script : List ScriptLine) → ScriptFits script → IsRanged w → ConnsAre w r.conn_at → AllLinked w r.dial_of → ServesOpen r.last r.conn_at → IsStill r → Agrees w r → LawfulGroups r script (groups_from w script)
+lawful_from : (w : PlainWorld) (r : Chronicle) (script : List ScriptLine) → ScriptFits script → IsRanged w → ConnsAre w r.conn_at → AllLinked w r.dial_of → ServesOpen r.last r.conn_at → IsStill r → NoneDialed r → Agrees w r → LawfulGroups r script (groups_from w script)
 unfolding world_step
-lawful_from w r [] fits ranged are linked serves calm a = tt
-lawful_from w r (line ∷ lines) fits ranged are linked serves calm a =
+lawful_from w r [] fits ranged are linked serves calm none a = tt
+lawful_from w r (line ∷ lines) fits ranged are linked serves calm none a =
     let fit = All-head (λ (x : ScriptLine). VerbFits x.verb) line lines fits in
     let outcome = verb_step w line.line line.verb in
     let row : Row w line.verb outcome = row_of w line.line line.verb in
@@ -172,7 +167,7 @@ lawful_from w r (line ∷ lines) fits ranged are linked serves calm a =
         judged.1,
         refl,
         λ why said standing. (row.keeps told.rests why said standing).1,
-        hands_none r0 line.verb outcome.1.events outcome.1.answer (row.tells r0 told) (seals_known w r0 line.line line.verb told.disks),
+        hands_none r0 line.verb outcome.1.events outcome.1.answer (row.tells r0 told) none,
         line_asked w r0 line.line line.verb ranged a0,
         leaves_none w line.line line.verb r0 ranged a0,
         all_answered later known later_agrees later_ranged heard.1,
@@ -180,9 +175,9 @@ lawful_from w r (line ∷ lines) fits ranged are linked serves calm a =
         line_breaks w r0 ranged a0 line.line line.verb (row.tells r0 told),
         ends.1,
       ),
-      lawful_from later known lines (All-tail (λ (x : ScriptLine). VerbFits x.verb) line lines fits) later_ranged heard.1 (all_linked w r line.line line.verb linked (new_there w r0 ranged a0 linked line.line line.verb) ends.0) (group_serves r line.line line.verb outcome.1.events outcome.1.answer) (tt, refl) later_agrees,
+      lawful_from later known lines (All-tail (λ (x : ScriptLine). VerbFits x.verb) line lines fits) later_ranged heard.1 (all_linked w r line.line line.verb linked (new_there w r0 ranged a0 linked line.line line.verb) ends.0) (group_serves r line.line line.verb outcome.1.events outcome.1.answer) (tt, refl) (group_plain r0 line.verb outcome.1.events outcome.1.answer none) later_agrees,
     )
 
 -- the transcript of a script is lawful
 pub lawful : (script : List ScriptLine) → ScriptFits script → Lawful script (groups script)
-lawful script fits = lawful_from empty_world empty_chronicle script fits start_ranged start_conns (λ l d e. cc) start_serves (tt, refl) start
+lawful script fits = lawful_from empty_world empty_chronicle script fits start_ranged start_conns (λ l d e. cc) start_serves (tt, refl) (λ l. refl) start

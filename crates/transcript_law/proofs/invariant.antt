@@ -54,3 +54,5 @@ pub mod Clients
 pub mod ClientNodes
 pub mod ClientStarts
 pub mod ClientWorlds
+pub mod Unpended
+pub mod Writers

@@ -17,3 +17,4 @@ pub mod Risen
 pub mod Stored
 pub mod StoredSessions
 pub mod Broken
+pub mod Takeovers

@@ -34,3 +34,4 @@ pub mod Posting
 pub mod Behind
 pub mod Windows
 pub mod Deliveries
+pub mod Handed

@@ -51,6 +51,7 @@ pub mod RefusalRows
 pub mod FeedingRows
 pub mod TakeoverRows
 pub mod TellingRows
+pub mod StateRows
 pub mod UndoneRows
 pub mod ClientStreamAnswers
 pub mod ClientStreamAsks
@@ -81,3 +82,4 @@ pub mod BreakRows
 pub mod ClosingRows
 pub mod WaitRows
 pub mod OwnWaitRows
+pub mod TakeoverWaits

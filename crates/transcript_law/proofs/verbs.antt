@@ -48,5 +48,6 @@ pub mod Asking
 pub mod AskingStarts
 pub mod AskingLines
 pub mod Undone
+pub mod Unstated
 pub mod StoredLines
 pub mod BreakLines

@@ -66,6 +66,10 @@ CheckedItem last item = (b : Begun) × (last ≡ Some b) × IsNextItem b item
 abbrev pub CheckedEnd : ℕ → Option Begun → Type 0
 CheckedEnd reason last = reason ≡ ALL_SENT → IsWholeIf last
 
+-- a state comes behind a whole snapshot, up to the last seqno of the stream's branch
+abbrev pub CheckedState : Chronicle → Granted → Type 0
+CheckedState chronicle g = IsWholeIf g.last × (g.place ≡ last_seq 0 (stream_history chronicle g))
+
 -- a link has a stream, of which this is so
 abbrev pub OfLink : Chronicle → ℕ → (Granted → Type 0) → Type 0
 OfLink chronicle l Rule = (g : Granted) × IsStream chronicle (name.Link l) g × Rule g
@@ -134,6 +138,8 @@ CheckedLine chronicle (event.Item (name.Link l) seq act key) behind = OfLink chr
 CheckedLine chronicle (event.Item (name.Client n c) seq act key) behind = OfClient (λ g. CheckedItem g.last (record { seq = seq; act = act; key = key })) (chronicle.clients_at n c) n c behind
 CheckedLine chronicle (event.Finished (name.Link l) reason) behind = OfLink chronicle l (λ g. CheckedEnd reason g.last)
 CheckedLine chronicle (event.Finished (name.Client n c) reason) behind = OfClient (λ g. CheckedEnd reason g.last) (chronicle.clients_at n c) n c behind
+CheckedLine chronicle (event.Stated (name.Link l) role) behind = OfLink chronicle l (CheckedState chronicle)
+CheckedLine chronicle (event.Stated (name.Client n c) role) behind = ⊥
 CheckedLine chronicle (event.Rolled n v named to) behind = IsFarthest (stood (chronicle.disk_at n v)) named to
 CheckedLine chronicle (event.Acknowledged (name.Link l) n v seq saved) behind = CheckedAck chronicle l n v seq saved
 CheckedLine chronicle (event.Acknowledged (name.Client m c) n v seq saved) behind = ⊥

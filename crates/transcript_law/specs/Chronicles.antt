@@ -28,6 +28,7 @@ use Rattle.branch_model.specs.Journals.{found, last_log, log_of, place_of, role_
 pub use Rattle.transcript_law.specs.LinesTold.{ItemLine, Begun, Granted, Dial, OwnChange, CountsKnown, alone, Flushing, Idle, Taken, Written, DiskKnown, blank_disk, stood, known_batch, ArmKnown, Conns, no_arm, known_down, without_node}
 pub use Rattle.transcript_law.specs.Clients.{conns_line, conns_lines, conns_verb}
 use Rattle.transcript_law.specs.ClientStreams.{with_client, with_sent_bytes}
+use Rattle.transcript_law.specs.TakeoverNotes.{takeovers_after}
 pub use Rattle.transcript_law.specs.ClientStreams.{ClientsKnown, blank_client, clients_line}
 pub use Rattle.transcript_law.specs.LinesTold.{Chronicle, LastLine, at_line, with_served, empty_chronicle, with_at, with_id, parent_branch, changes_between, uncounted, after_branch, snap_in_role, after_role, held_more, after_change, is_name, with_stream, is_dial_of, is_stream_of, with_changed}
 pub use Rattle.transcript_law.specs.LinesTold.{with_point, is_dial_at, is_stream_at, after_end, after_state, fed_branch, is_branch, granted, after_ask, stream_branch, with_begun, more_items, with_item, finished, past_next, past_mark, acknowledging, after_take, after_adopt}
@@ -344,4 +345,4 @@ abbrev pub after_group : Chronicle → Verb → List Event → Answer → Chroni
 after_group chronicle line lines said =
     let read = after_verb chronicle (after_lines (ahead chronicle line said) lines) line lines said in
     let conns = conns_verb (conns_lines chronicle.conn_at lines) line said in
-    record read { last = with_served read.last read.clients_at conns read.made; conn_at = conns; made = []; ticks = None; changed = false }
+    record read { last = with_served read.last read.clients_at conns read.made; takeover_of = takeovers_after read line lines said; conn_at = conns; made = []; ticks = None; changed = false }

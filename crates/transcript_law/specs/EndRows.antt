@@ -6,6 +6,7 @@ use Rattle.script_text.specs.declared.verb.Verb.TheVariants as verb
 use Rattle.vb_events.specs.declared.event.Answer.{Answer}
 use Rattle.vb_events.specs.declared.event.Answer.TheVariants as answer
 use Rattle.vb_events.specs.declared.event.Cause.{Cause}
+use Rattle.vb_events.specs.declared.event.Cause.TheVariants as cause
 use Rattle.vb_events.specs.declared.event.Event.{Event}
 use Rattle.vb_events.specs.declared.event.Event.TheVariants as event
 use Rattle.vb_types.specs.declared.role.Role.{Role}
@@ -35,3 +36,18 @@ IsCarried what = (why : Cause) → LawfulHere one_dialed (over_one what) ([], an
 -- the link l is dialed, from the node 0 to the vBucket v of the node 1
 abbrev pub dials : ℕ → ℕ → Verb
 dials l v = verb.Link l 0 1 v 0
+
+-- another vBucket of its node is dead, and the append of that stops the node
+abbrev pub turns_and_stops : List Event
+turns_and_stops = event.Role 1 1 role.Dead ∷ event.NodeStopped 1 ∷ []
+
+-- the link l is dialed for the vBucket 0 of another node
+abbrev pub dials_elsewhere : ℕ → Verb
+dials_elsewhere l = verb.Link l 0 2 0 0
+
+-- a cause of which no disk knows
+abbrev pub IsNoDisk : Cause → Type 0
+IsNoDisk cause.Closed = ⊥
+IsNoDisk cause.Disk = ⊥
+IsNoDisk cause.Stopped = ⊥
+IsNoDisk other = Unit {0}

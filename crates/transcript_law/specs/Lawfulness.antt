@@ -33,8 +33,8 @@ use Rattle.branch_model.specs.Trees.{Branch, hist, Shared, IsNew, ForksBelow}
 use Rattle.script_text.specs.declared.verb.ScriptLine.{ScriptLine}
 use Rattle.transcript_law.specs.Firings.{FiresInLine}
 use Rattle.transcript_law.specs.Standing.{TellsIfBegun}
-use Rattle.transcript_law.specs.Takeovers.{NoTakeover}
-pub use Rattle.transcript_law.specs.Heirs.{IsFed, IsWriter, LawfulRole, stream_history}
+use Rattle.transcript_law.specs.TakeoverAnswers.{HandsOver}
+pub use Rattle.transcript_law.specs.Heirs.{IsFed, IsWriter, LawfulRole, LawfulState, stream_history}
 use Rattle.transcript_law.specs.Asked.{TellsAsAsked}
 use Rattle.transcript_law.specs.Undone.{LeavesNone}
 use Rattle.transcript_law.specs.Ends.{AllEnded}
@@ -189,9 +189,10 @@ pub record LawfulBranch (chronicle : Chronicle) (n v uuid : ℕ) (parent : Optio
 abbrev pub IsDialed : Chronicle → ℕ → ℕ → ℕ → Type 0
 IsDialed chronicle l n v = (node : ℕ) × (chronicle.dial_of l ≡ Some (record { producer = n; node = node; vb = v }))
 
--- a request of a link comes over one that was dialed for it, and is answered as each is
+-- a request of a link comes over one that was dialed for it, has no flag unless that was for a takeover, and is answered as each is
 pub record LawfulAsk (chronicle : Chronicle) (l n v : ℕ) (ask : StreamAsk) (high : ℕ) (log : List LogEntry) (said : AskAnswer) : Type 0 where
   pub dialed : IsDialed chronicle l n v
+  pub plain : (ask.flags ≡ 0) ⊎ ((chronicle.takeover_of l).dialed ≡ true)
   pub answered : LawfulSaid chronicle n v ask high log said
 
 -- the vBucket that dialed a link takes over the log that the link's stream was granted with
@@ -347,6 +348,8 @@ LawfulLine chronicle (event.Item (name.Link l) seq act key) behind = LawfulItem 
 LawfulLine chronicle (event.Item (name.Client n c) seq act key) behind = LawfulClientItem chronicle (chronicle.clients_at n c) n c (record { seq = seq; act = act; key = key }) behind
 LawfulLine chronicle (event.Finished (name.Link l) reason) behind = LawfulFinish chronicle (name.Link l) reason
 LawfulLine chronicle (event.Finished (name.Client n c) reason) behind = LawfulClientEnd (chronicle.clients_at n c) n c reason behind
+LawfulLine chronicle (event.Stated (name.Link l) role) behind = LawfulState chronicle l role
+LawfulLine chronicle (event.Stated (name.Client n c) role) behind = ⊥
 LawfulLine chronicle (event.Adopted n v log) behind = LawfulAdopt chronicle n v log
 LawfulLine chronicle (event.Ranged n v ss se) behind = LawfulRange chronicle n v ss se
 LawfulLine chronicle (event.Got n v (name.Link l) change) behind = LawfulGot chronicle n v l change
@@ -377,10 +380,10 @@ abbrev pub LinesFrom : Chronicle → Conns → List Event → Type 0
 LinesFrom chronicle conns [] = Unit {0}
 LinesFrom chronicle conns (line ∷ behind) = Heard conns line behind (LawfulLine chronicle line behind) × LinesFrom (after_line chronicle line) (conns_line conns line) behind
 
--- the group of a line of a script: its number, its lines, its answer, and what both say of arms that fired and of vBuckets that went back; one that was refused where it stood tells of nothing; none tells of anything else than its line may; each tells what its line asked for; none leaves undone what it is for; none leaves a client without an answer; behind each set and each removal its answer stands; none closes a client's connection but where its bytes break off, or its node ends; and none ends a link of which it does not tell so
+-- the group of a line of a script: its number, its lines, its answer, and what both say of arms that fired and of vBuckets that went back; one that was refused where it stood tells of nothing; none tells of anything else than its line may, and what is told of takeovers is in order; each tells what its line asked for; none leaves undone what it is for; none leaves a client without an answer; behind each set and each removal its answer stands; none closes a client's connection but where its bytes break off, or its node ends; and none ends a link of which it does not tell so
 abbrev pub LawfulGroup : Chronicle → ScriptLine → Group → Type 0
 LawfulGroup chronicle line group =
-    LinesFrom (ahead chronicle line.verb group.answer) chronicle.conn_at group.events × IsAnswered chronicle line.verb group.events group.answer × FiresInLine chronicle line.verb group.events group.answer × (group.line ≡ line.line) × TellsIfBegun group.events group.answer × NoTakeover chronicle line.verb group.events group.answer × TellsAsAsked line.verb group.events group.answer × LeavesNone chronicle line.verb group.events group.answer × AllAnswered (after_group chronicle line.verb group.events group.answer) × AllToldNext group.events × ClosesAsBroken chronicle line.verb group.events × AllEnded chronicle line.verb group.events group.answer
+    LinesFrom (ahead chronicle line.verb group.answer) chronicle.conn_at group.events × IsAnswered chronicle line.verb group.events group.answer × FiresInLine chronicle line.verb group.events group.answer × (group.line ≡ line.line) × TellsIfBegun group.events group.answer × HandsOver chronicle line.verb group.events group.answer × TellsAsAsked line.verb group.events group.answer × LeavesNone chronicle line.verb group.events group.answer × AllAnswered (after_group chronicle line.verb group.events group.answer) × AllToldNext group.events × ClosesAsBroken chronicle line.verb group.events × AllEnded chronicle line.verb group.events group.answer
 
 -- the groups of the lines of a script that come next, one for each, read behind the number of its line
 abbrev pub LawfulGroups : Chronicle → List ScriptLine → List Group → Type 0

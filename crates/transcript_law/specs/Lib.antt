@@ -28,10 +28,15 @@ pub mod Firings
 pub mod Followers
 pub mod Journals
 pub mod LinesTold
+pub mod TakeoversTold
+pub mod TakeoverNotes
 pub mod Majorities
 pub mod OwnChanges
 pub mod Heirs
 pub mod Takeovers
+pub mod TakeoverLines
+pub mod TakeoverAnswers
+pub mod Heirless
 pub mod TakeoverRows
 pub mod Lawfulness
 pub mod Commits
@@ -55,6 +60,7 @@ pub mod Unanswered
 pub mod Undone
 pub mod UndoneRows
 pub mod TellingRows
+pub mod StateRows
 pub mod AnsweredRows
 pub mod Asked
 pub mod AskedRows

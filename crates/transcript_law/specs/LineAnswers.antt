@@ -68,9 +68,9 @@ IsLinked dials l n v (answer.Pulled count said) = ⊥
 IsLinked dials l n v (answer.No cause.LinkOpen) = ((dial : Dial) × (dials l ≡ Some dial)) ⊎ ((k : ℕ) × (is_dial_for n v (dials k) ≡ true))
 IsLinked dials l n v (answer.No why) = Unit {0}
 
--- so many were sealed of one vBucket: 1 where it changed since it was sealed last, took a marker, got a role or went back, and 0 where it did not. Of one that is pending it is not known whether it changed, as that may be sealed with no line, where another state pending comes
+-- so many were sealed of one vBucket: 1 where it changed since it was sealed last, took a marker, got a role or went back, and 0 where it did not. Of one that is pending it is not known whether it was sealed since it changed, as that may be with no line, where another state pending comes
 abbrev pub SealsAs : Option (Option Role) → Bool → ℕ → Type 0
-SealsAs (Some (Some role.Pending)) changed n = n ≤ 1
+SealsAs (Some (Some role.Pending)) true n = n ≤ 1
 SealsAs other changed n = n ≡ (if changed then 1 else 0)
 
 -- a vBucket was sealed

@@ -30,6 +30,7 @@ use Rattle.branch_model.specs.Trees.{Branch, grow, hist}
 use Rattle.vb_calls.specs.State.{is_active}
 pub use Rattle.vb_calls.specs.Spans.{is_durable}
 pub use Rattle.transcript_law.specs.LastLines.{Conns, LastLine, OwnChange, number_of, numbered, risen_through, risen_to, served_then, told_for, with_served}
+pub use Rattle.transcript_law.specs.TakeoversTold.{Answered, Obeyed, Obeys, Put, TakeoverKnown, dialed_for, with_moved, with_role, with_state}
 pub use Rattle.transcript_law.specs.StreamsTold.{Begun, ClientsKnown, ItemLine, blank_client, more_items, with_at, with_id}
 use Rattle.transcript_law.specs.ClientStreams.{clients_line, past_turn, with_clients_of}
 
@@ -107,7 +108,7 @@ known_down = record { fuse = Off; out = Old; down = true }
 -- the line that was read last, as long as the numbers of lines rise and are below 2^32, and none for good once they did not; the branches, the newest first; the role of a vBucket of a node, where it is known, which is none before it is made; the changes that it holds, the
 -- branch that it is on, and its failover log, where that is known; for each branch id, the node and the vBucket that made the branch or took it over
 -- last; for each link that is not over, its dial; for each stream's name and vBucket, the stream; and for each link the point that its last request was
--- sent back to, until its consumer went back; and for each link the state that was put last on its stream, if one was; whether a vBucket changed since it was sealed last, took a marker, got a role or went back;
+-- sent back to, until its consumer went back; and for each link the state that was put last on its stream, if one was, and what else is known of it where it may take a vBucket over; whether a vBucket changed since it was sealed last, took a marker, got a role or went back;
 -- the start and end of the snapshot that it is in, where that is known; what it wrote down; and what counts where it commits; what each node's clock shows; the connections of
 -- clients that were open before this group, but for those of a node that stopped in it; what is known of each of them and of its streams; the changes that vBuckets made of their own in this group, the last first, but for sets and removals before its last answer; the vBucket, with its node, whose prepares the line of this group gives up, where it is such a line; and whether a change was told in this group since a client was sent a frame in it
 pub record Chronicle : Type 0 where
@@ -122,6 +123,7 @@ pub record Chronicle : Type 0 where
   pub stream_of : StreamName → ℕ → Option Granted
   pub point_of : ℕ → Option ℕ
   pub stated_of : ℕ → Option Role
+  pub takeover_of : ℕ → TakeoverKnown
   pub open_at : ℕ → ℕ → Bool
   pub snap_at : ℕ → ℕ → Option (ℕ × ℕ)
   pub disk_at : ℕ → ℕ → DiskKnown
@@ -152,6 +154,7 @@ empty_chronicle = record {
   stream_of = λ s v. None;
   point_of = λ l. None;
   stated_of = λ l. None;
+  takeover_of = λ l. dialed_for false;
   open_at = λ n v. false;
   snap_at = λ n v. Some (0, 0);
   disk_at = λ n v. blank_disk;
@@ -472,6 +475,8 @@ after_line chronicle (event.Item (name.Link l) seq act key) = with_changed chron
 after_line chronicle (event.Item (name.Client m c) seq act key) = after_client_line chronicle (event.Item (name.Client m c) seq act key)
 after_line chronicle (event.Finished (name.Link l) reason) = with_changed chronicle (name.Link l) finished
 after_line chronicle (event.Finished (name.Client m c) reason) = after_client_line chronicle (event.Finished (name.Client m c) reason)
+after_line chronicle (event.Stated (name.Link l) role) = after_state chronicle l role
+after_line chronicle (event.Stated (name.Client m c) role) = chronicle
 after_line chronicle (event.Adopted n v log) = after_adopt chronicle n v log
 after_line chronicle (event.Ranged n v ss se) = after_range chronicle n v ss se
 after_line chronicle (event.Got n v stream change) = after_take chronicle n v stream change

@@ -78,3 +78,7 @@ another_waits waiter = record (one_waits waiter) { key = 108 ∷ []; seq = 6 }
 -- a world of one node, under 0
 abbrev pub one_node : PlainNode → PlainWorld
 one_node node = record empty_world { nodes = λ n. if n == 0 then Some node else None }
+
+-- a world of one node, under n
+abbrev pub node_alone : ℕ → PlainNode → PlainWorld
+node_alone n node = record empty_world { nodes = λ m. if m == n then Some node else None }

@@ -6,11 +6,12 @@ use Rattle.vb_events.specs.declared.event.Event.TheVariants as event
 use Rattle.vb_events.specs.declared.event.Why.{Why}
 use Rattle.vb_events.specs.declared.event.Why.TheVariants as why
 
--- a line tells of a frame of a stream that was put: a marker, an item, or the stream's end
+-- a line tells of a frame of a stream that was put: a marker, an item, the stream's end, or a state
 abbrev pub is_frame : Event → Bool
 is_frame (event.Marked stream start end flags) = true
 is_frame (event.Item stream seq act key) = true
 is_frame (event.Finished stream reason) = true
+is_frame (event.Stated stream role) = true
 is_frame other = false
 
 -- of so many frames of streams these lines tell

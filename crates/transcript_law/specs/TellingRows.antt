@@ -12,12 +12,13 @@ use Rattle.vb_types.specs.declared.stream.AskAnswer.TheVariants as ask_answer
 use Rattle.vb_types.specs.declared.stream.StreamAsk.{StreamAsk}
 use Rattle.transcript_law.specs.BoundRows.{LawfulHere, one_dialed}
 use Rattle.transcript_law.specs.Chronicles.{Chronicle}
+use Rattle.transcript_law.specs.Takeovers.{IsPlainFor}
 use Rattle.transcript_law.specs.Transcripts.{change_line, one_change}
 
--- whatever was read before and however it is answered, this line does not tell of this first, nor behind any line
+-- whatever was read before and however it is answered, this line does not tell of this first, nor behind any line, unless it is for a link that was dialed for a takeover
 pub record MayNotTell (asked : Verb) (wrong : Event) : Type 0 where
-  pub first : (chronicle : Chronicle) (lines : List Event) (said : Answer) → LawfulHere chronicle asked (wrong ∷ lines, said) → ⊥
-  pub later : (chronicle : Chronicle) (before : Event) (lines : List Event) (said : Answer) → LawfulHere chronicle asked (before ∷ wrong ∷ lines, said) → ⊥
+  pub first : (chronicle : Chronicle) (lines : List Event) (said : Answer) → IsPlainFor chronicle asked → LawfulHere chronicle asked (wrong ∷ lines, said) → ⊥
+  pub later : (chronicle : Chronicle) (before : Event) (lines : List Event) (said : Answer) → IsPlainFor chronicle asked → LawfulHere chronicle asked (before ∷ wrong ∷ lines, said) → ⊥
 
 -- where the link 1 was dialed for the vBucket 0 of the node 1 from the node 0, this line does not tell of this first, however it is answered
 abbrev pub NotFirst : Verb → Event → Type 0

@@ -43,6 +43,7 @@ abbrev pub is_of_pull : ℕ → ℕ → Event → Bool
 is_of_pull n c (event.Marked (name.Client m d) start end flags) = m == n && d == c
 is_of_pull n c (event.Item (name.Client m d) seq act key) = m == n && d == c
 is_of_pull n c (event.Finished (name.Client m d) reason) = m == n && d == c
+is_of_pull n c (event.Stated (name.Client m d) role) = m == n && d == c
 is_of_pull n c (event.Reply m d bytes) = m == n && d == c
 is_of_pull n c other = false
 
@@ -125,6 +126,7 @@ abbrev pub is_of_pump : ℕ → Event → Bool
 is_of_pump l (event.Marked (name.Link k) start end flags) = k == l
 is_of_pump l (event.Item (name.Link k) seq act key) = k == l
 is_of_pump l (event.Finished (name.Link k) reason) = k == l
+is_of_pump l (event.Stated (name.Link k) role) = k == l
 is_of_pump l other = false
 
 -- what the vBucket v of the node n takes from it, and writes back; and its end, which is no cut

@@ -24,6 +24,7 @@ use Rattle.branch_model.specs.Requests.{effective_se}
 use Rattle.flow_control.specs.Windows.{is_open as lets_through}
 use Rattle.transcript_law.specs.Questions.{flow_now}
 use Rattle.transcript_law.specs.LinesTold.{Chronicle, Dial, Granted, after_lines}
+use Rattle.transcript_law.specs.TakeoverAnswers.{StateAwaited}
 use Rattle.transcript_law.specs.LawfulClients.{AllQuiet, AllRest, OneWaits}
 pub use Rattle.transcript_law.specs.StreamLaws.{EndsThere, IsPutWhole}
 
@@ -107,4 +108,5 @@ LeavesNone chronicle asked lines (answer.Number n) = (n ≡ 0 → NoneToTake chr
 LeavesNone chronicle asked lines (answer.Pulled n why.Idle) = NoneToPut (after_lines chronicle lines) asked
 LeavesNone chronicle asked lines (answer.Pulled n why.WaitSaved) = WaitsForOne (after_lines chronicle lines) asked
 LeavesNone chronicle asked lines (answer.Pulled n why.Full) = IsShutFor (after_lines chronicle lines) asked
+LeavesNone chronicle asked lines (answer.Pulled n why.WaitState) = StateAwaited chronicle asked lines
 LeavesNone chronicle asked lines other = Unit {0}

@@ -12,7 +12,7 @@ use Rattle.node_world.specs.Nodes.{PlainNode}
 use Rattle.node_world.specs.declared.script_node.TheConstants.{MAX_CLIENTS}
 use Rattle.vb_calls.specs.Plain.{Plain}
 use Rattle.vb_calls.specs.States.{States}
-use Rattle.vb_types.specs.declared.change.Level.TheVariants.{Majority}
+use Rattle.vb_types.specs.declared.change.Level.TheVariants.{Majority, PersistMajority}
 use Rattle.vb_types.specs.declared.write.Write.{Write}
 
 -- who waits under this number is told one of these outcomes
@@ -72,3 +72,31 @@ with_told reply told = record reply { resolved = told }
 -- a node whose every connection is this one, and whose one vBucket is this, if there is one
 abbrev pub with_only : PlainNode → PlainClient → Option Plain → PlainNode
 with_only node client vb = record node { clients = λ c. Some client; vbs = λ v. if v == 0 then vb else None }
+
+-- it as one of another key, of another seqno or level, and with another time at which it is given up
+abbrev pub waits_elsewhere : Waiting
+waits_elsewhere = record (one_waits 7) { key = 108 ∷ [] }
+
+abbrev pub waits_later : Waiting
+waits_later = record (one_waits 7) { seq = 6 }
+
+abbrev pub waits_higher : Waiting
+waits_higher = record (one_waits 7) { level = PersistMajority }
+
+abbrev pub waits_longer : Waiting
+waits_longer = record (one_waits 7) { deadline = Some 2 }
+
+-- with no time
+abbrev pub waits_for_ever : Waiting
+waits_for_ever = record (one_waits 7) { deadline = None }
+
+-- it is what this write asks for, with this wish
+pub record IsItsWish (write : Write) (wish : Wish) : Type 0 where
+  pub key : write.key ≡ 107 ∷ []
+  pub level : wish.level ≡ Majority
+  pub deadline : wish.deadline ≡ 1
+  pub waiter : wish.waiter ≡ 7
+
+-- a node whose connection of the number c alone is there, which is this one, and that has no vBucket
+abbrev pub with_one_at : PlainNode → ℕ → PlainClient → PlainNode
+with_one_at node c client = record node { clients = λ d. if d == c then Some client else None; vbs = λ v. None }

@@ -1,6 +1,7 @@
 //! What a script leaves of its branches.
 
 ghost use Rattle.std.specs.Prelude.{List};
+ghost use Rattle.transcript_law.specs.Heirless.{WritesAsTold};
 ghost use Rattle.transcript_law.specs.Prefixes.{AreFollowed, known_of, world_of};
 ghost use Rattle.script_text.specs.declared.verb.ScriptLine.{ScriptLine};
 ghost use Rattle.script_text.specs.Fitting.{ScriptFits};
@@ -14,4 +15,11 @@ ghost use Rattle.script_text.specs.Fitting.{ScriptFits};
 /// its own durable write, whose prepare alone is outstanding under its number.
 pub fn branches_are_followed()
     ensures { (script : List ScriptLine) → ScriptFits script → AreFollowed (known_of script) (world_of script) }
+{}
+
+/// After every line of a script a vBucket is active on a branch exactly where the lines name it as the
+/// branch's writer, on that branch and active. They name one writer of a branch, so there is one active
+/// vBucket on it, or none.
+pub fn writers_are_as_told()
+    ensures { (script : List ScriptLine) → ScriptFits script → WritesAsTold (known_of script) (world_of script) }
 {}

@@ -17,11 +17,11 @@ ghost use Rattle.script_text.specs.Fitting.{ScriptFits};
 ghost use Rattle.script_text.specs.declared.verb.ScriptLine.{ScriptLine};
 ghost use Rattle.transcript_law.specs.LastLines.{LastLine, risen_through};
 ghost use Rattle.transcript_law.specs.LinesTold.{Chronicle};
-ghost use Rattle.transcript_law.specs.OwnWaits.{AllAwaitTheirOwn, AwaitTheirOwnIf, AwaitsItsOwn, IsEntryOf, IsTheOneAt, another_waits, one_node, two_states, waits_alone};
+ghost use Rattle.transcript_law.specs.OwnWaits.{AllAwaitTheirOwn, AwaitTheirOwnIf, AwaitsItsOwn, IsEntryOf, IsTheOneAt, another_waits, node_alone, one_node, two_states, waits_alone};
 ghost use Rattle.transcript_law.specs.Prefixes.{AreFollowed, known_of, world_of};
 ghost use Rattle.transcript_law.specs.Questions.{Question, question_of};
 ghost use Rattle.transcript_law.specs.StreamsTold.{Asking};
-ghost use Rattle.transcript_law.specs.Waits.{ForgetsNone, LeavesOthers, NoneWaitsInVain, WaitsAsAsked, one_waits, told_one, with_only, with_told, with_waiting};
+ghost use Rattle.transcript_law.specs.Waits.{ForgetsNone, IsItsWish, LeavesOthers, NoneWaitsInVain, WaitsAsAsked, one_waits, told_one, waits_elsewhere, waits_for_ever, waits_higher, waits_later, waits_longer, with_one_at, with_only, with_told, with_waiting};
 ghost use Rattle.vb_types.specs.declared.journal.FlushPart.{FlushPart};
 ghost use Rattle.vb_calls.specs.Durable.{Wish};
 ghost use Rattle.vb_calls.specs.Plain.{Plain, plain_step};
@@ -51,16 +51,37 @@ pub fn calls_forget_none()
 
 /// One prepare is outstanding, and somebody waits for it under 7: a call that leaves it, or that tells 7,
 /// forgets none; one that tells nobody, or somebody else, does, also where another prepare of the same
-/// seqno is outstanding behind it. One for which nobody waits may go untold.
+/// seqno is outstanding behind it; and so does one that leaves it as that of another key, with another
+/// seqno or level, or with another deadline or none. One for which nobody waits may go untold.
 pub fn judged_forgotten_waits()
     ensures stays { (vb : Plain) (reply : Reply) → ForgetsNone (with_waiting vb (one_waits 7 ∷ [])) (with_waiting vb (one_waits 7 ∷ []), with_told reply []) }
     ensures told { (vb : Plain) (reply : Reply) → ForgetsNone (with_waiting vb (one_waits 7 ∷ [])) (with_waiting vb [], with_told reply (told_one 7)) }
     ensures untold { (vb : Plain) (reply : Reply) → ForgetsNone (with_waiting vb (one_waits 7 ∷ [])) (with_waiting vb [], with_told reply []) → ⊥ }
     ensures other { (vb : Plain) (reply : Reply) → ForgetsNone (with_waiting vb (one_waits 7 ∷ [])) (with_waiting vb [], with_told reply (told_one 8)) → ⊥ }
     ensures renumbered { (vb : Plain) (reply : Reply) → ForgetsNone (with_waiting vb (one_waits 7 ∷ [])) (with_waiting vb (one_waits 8 ∷ []), with_told reply []) → ⊥ }
+    ensures elsewhere { (vb : Plain) (reply : Reply) → ForgetsNone (with_waiting vb (one_waits 7 ∷ [])) (with_waiting vb (waits_elsewhere ∷ []), with_told reply []) → ⊥ }
+    ensures later { (vb : Plain) (reply : Reply) → ForgetsNone (with_waiting vb (one_waits 7 ∷ [])) (with_waiting vb (waits_later ∷ []), with_told reply []) → ⊥ }
+    ensures higher { (vb : Plain) (reply : Reply) → ForgetsNone (with_waiting vb (one_waits 7 ∷ [])) (with_waiting vb (waits_higher ∷ []), with_told reply []) → ⊥ }
+    ensures longer { (vb : Plain) (reply : Reply) → ForgetsNone (with_waiting vb (one_waits 7 ∷ [])) (with_waiting vb (waits_longer ∷ []), with_told reply []) → ⊥ }
+    ensures for_ever { (vb : Plain) (reply : Reply) → ForgetsNone (with_waiting vb (one_waits 7 ∷ [])) (with_waiting vb (waits_for_ever ∷ []), with_told reply []) → ⊥ }
     ensures nobody { (vb : Plain) (reply : Reply) → ForgetsNone (with_waiting vb (one_waits 0 ∷ [])) (with_waiting vb [], with_told reply []) }
     ensures left { (vb : Plain) (reply : Reply) → LeavesOthers (with_waiting vb (one_waits 7 ∷ [])) (with_waiting vb (one_waits 7 ∷ one_waits 8 ∷ []), reply) }
     ensures taken { (vb : Plain) (reply : Reply) → LeavesOthers (with_waiting vb (one_waits 7 ∷ [])) (with_waiting vb (one_waits 8 ∷ []), with_told reply (told_one 7)) → ⊥ }
+{}
+
+/// A durable write of the key 107 is prepared at 5 for 7, at level 1, to be given up at 1: that is
+/// outstanding then, or 7 is told. It is not where it is outstanding for 8, or as that of another key, with
+/// another seqno or level, or with another deadline or none; nor where nothing is, and nobody is told.
+pub fn judged_placed_waits()
+    ensures placed { (vb : Plain) (reply : Reply) (write : WriteData) (wish : Wish) → IsItsWish write wish → WaitsAsAsked write wish 5 (with_waiting vb (one_waits 7 ∷ []), with_told reply []) }
+    ensures told { (vb : Plain) (reply : Reply) (write : WriteData) (wish : Wish) → IsItsWish write wish → WaitsAsAsked write wish 5 (with_waiting vb [], with_told reply (told_one 7)) }
+    ensures other { (vb : Plain) (reply : Reply) (write : WriteData) (wish : Wish) → IsItsWish write wish → WaitsAsAsked write wish 5 (with_waiting vb (one_waits 8 ∷ []), with_told reply (told_one 8)) → ⊥ }
+    ensures elsewhere { (vb : Plain) (reply : Reply) (write : WriteData) (wish : Wish) → IsItsWish write wish → WaitsAsAsked write wish 5 (with_waiting vb (waits_elsewhere ∷ []), with_told reply []) → ⊥ }
+    ensures later { (vb : Plain) (reply : Reply) (write : WriteData) (wish : Wish) → IsItsWish write wish → WaitsAsAsked write wish 5 (with_waiting vb (waits_later ∷ []), with_told reply []) → ⊥ }
+    ensures higher { (vb : Plain) (reply : Reply) (write : WriteData) (wish : Wish) → IsItsWish write wish → WaitsAsAsked write wish 5 (with_waiting vb (waits_higher ∷ []), with_told reply []) → ⊥ }
+    ensures longer { (vb : Plain) (reply : Reply) (write : WriteData) (wish : Wish) → IsItsWish write wish → WaitsAsAsked write wish 5 (with_waiting vb (waits_longer ∷ []), with_told reply []) → ⊥ }
+    ensures for_ever { (vb : Plain) (reply : Reply) (write : WriteData) (wish : Wish) → IsItsWish write wish → WaitsAsAsked write wish 5 (with_waiting vb (waits_for_ever ∷ []), with_told reply []) → ⊥ }
+    ensures untold { (vb : Plain) (reply : Reply) (write : WriteData) (wish : Wish) → IsItsWish write wish → WaitsAsAsked write wish 5 (with_waiting vb [], with_told reply []) → ⊥ }
 {}
 
 /// Where no connection of a node waits for nothing, none does behind what a client sends. And where the
@@ -85,12 +106,13 @@ pub fn settling_leaves_none_in_vain()
 {}
 
 /// A connection that awaits 7 does not wait for nothing where a prepare is outstanding for 7; where there is
-/// none, or only one for 8, or where the node has no vBucket, it does.
+/// none, or only one for 8, or where the node has no vBucket, it does, whatever its number is, up to 999.
 pub fn judged_vain_waits()
     ensures waits { (node : PlainNode) (client : PlainClient) (a : Awaited) (vb : Plain) → client.session.awaited ≡ Some a → a.waiter ≡ 7 → NoneWaitsInVain (with_only node client (Some (with_waiting vb (one_waits 7 ∷ [])))) }
     ensures other { (node : PlainNode) (client : PlainClient) (a : Awaited) (vb : Plain) → client.session.awaited ≡ Some a → a.waiter ≡ 7 → NoneWaitsInVain (with_only node client (Some (with_waiting vb (one_waits 8 ∷ [])))) → ⊥ }
     ensures nothing { (node : PlainNode) (client : PlainClient) (a : Awaited) (vb : Plain) → client.session.awaited ≡ Some a → a.waiter ≡ 7 → NoneWaitsInVain (with_only node client (Some (with_waiting vb []))) → ⊥ }
     ensures nowhere { (node : PlainNode) (client : PlainClient) (a : Awaited) → client.session.awaited ≡ Some a → a.waiter ≡ 7 → NoneWaitsInVain (with_only node client None) → ⊥ }
+    ensures any { (node : PlainNode) (client : PlainClient) (a : Awaited) (c : ℕ) → c < 1000 → client.session.awaited ≡ Some a → NoneWaitsInVain (with_one_at node c client) → ⊥ }
     ensures idle { (node : PlainNode) (client : PlainClient) → client.session.awaited ≡ None → NoneWaitsInVain (with_only node client None) }
 {}
 
@@ -108,7 +130,7 @@ pub fn awaited_writes_are_outstanding()
 /// At an active vBucket a prepare of a write is outstanding under 7, and waits at its key with its document: it
 /// is the one that is awaited under 7. It is not where it is outstanding under 8 or at another vBucket,
 /// where the vBucket is no active one, or the write is of another key, or where nothing waits at the key, or what
-/// came later, or what holds another value or removes; nor where another prepare is outstanding under
+/// came later, or what holds another value, other flags, another expiry or datatype, or removes; nor where another prepare is outstanding under
 /// 7 too, at another vBucket or at the same one.
 pub fn judged_own_prepares()
     ensures one { (vb : Plain) (write : WriteData) (pend : Pend) → vb.role ≡ role.Active → write.key ≡ 107 ∷ [] → pending_of vb (107 ∷ []) ≡ Some pend → pend.seq ≡ 5 → IsEntryOf write pend → IsTheOneAt 7 (two_states (waits_alone vb 7) None) 0 write }
@@ -119,6 +141,9 @@ pub fn judged_own_prepares()
     ensures nothing { (vb : Plain) (write : WriteData) → pending_of vb write.key ≡ None → IsTheOneAt 7 (two_states (waits_alone vb 7) None) 0 write → ⊥ }
     ensures later { (vb : Plain) (write : WriteData) (pend : Pend) → pending_of vb write.key ≡ Some pend → pend.seq ≡ 6 → IsTheOneAt 7 (two_states (waits_alone vb 7) None) 0 write → ⊥ }
     ensures value { (vb : Plain) (write : WriteData) (pend : Pend) → pending_of vb write.key ≡ Some pend → pend.doc.value ≢ write.value → IsTheOneAt 7 (two_states (waits_alone vb 7) None) 0 write → ⊥ }
+    ensures flags { (vb : Plain) (write : WriteData) (pend : Pend) → pending_of vb write.key ≡ Some pend → pend.doc.flags ≢ write.flags → IsTheOneAt 7 (two_states (waits_alone vb 7) None) 0 write → ⊥ }
+    ensures expiry { (vb : Plain) (write : WriteData) (pend : Pend) → pending_of vb write.key ≡ Some pend → pend.doc.expiry ≢ write.expiry → IsTheOneAt 7 (two_states (waits_alone vb 7) None) 0 write → ⊥ }
+    ensures datatype { (vb : Plain) (write : WriteData) (pend : Pend) → pending_of vb write.key ≡ Some pend → pend.doc.datatype ≢ write.datatype → IsTheOneAt 7 (two_states (waits_alone vb 7) None) 0 write → ⊥ }
     ensures removes { (vb : Plain) (write : WriteData) (pend : Pend) → pending_of vb write.key ≡ Some pend → pend.deleted ≡ true → write.op ≡ op.Set → IsTheOneAt 7 (two_states (waits_alone vb 7) None) 0 write → ⊥ }
     ensures two { (vb other : Plain) (write : WriteData) → IsTheOneAt 7 (two_states (waits_alone vb 7) (waits_alone other 7)) 0 write → ⊥ }
     ensures both { (vb : Plain) (write : WriteData) → IsTheOneAt 7 (two_states (Some (with_waiting vb (one_waits 7 ∷ another_waits 7 ∷ []))) None) 0 write → ⊥ }
@@ -127,15 +152,19 @@ pub fn judged_own_prepares()
 {}
 
 /// A connection whose next question is a durable write awaits its own where that prepare is the one; one
-/// that has no question, or whose question is a plain write, does not. In a world with no node all do, and
-/// not where a connection awaits an outcome at a node with no vBucket, as long as the numbers of lines rise; nor is that what a script leaves.
+/// that has no question, or whose question is a plain write, does not, nor one whose prepare is outstanding
+/// at another vBucket than the question names. In a world with no node all do, and
+/// not where a connection awaits an outcome at a node with no vBucket, whatever the numbers of both are, as
+/// long as the numbers of lines rise; nor is that what a script leaves.
 pub fn judged_own_waits()
     ensures own { (asking : Asking) (q : Question) (write : WriteData) (wish : Durability) (a : Awaited) (states : States) → question_of asking ≡ Some q → request_of asking.settings.json q.frame ≡ Ok (request.Write write (Some wish))
         → IsTheOneAt a.waiter states q.frame.vb_or_status write → AwaitsItsOwn asking a states }
     ensures unasked { (asking : Asking) (a : Awaited) (states : States) → question_of asking ≡ None → AwaitsItsOwn asking a states → ⊥ }
     ensures plain { (asking : Asking) (q : Question) (write : WriteData) (a : Awaited) (states : States) → question_of asking ≡ Some q → request_of asking.settings.json q.frame ≡ Ok (request.Write write None) → AwaitsItsOwn asking a states → ⊥ }
+    ensures elsewhere { (asking : Asking) (q : Question) (a : Awaited) (vb : Plain) → question_of asking ≡ Some q → q.frame.vb_or_status ≡ 1 → AwaitsItsOwn asking a (two_states (waits_alone vb a.waiter) None) → ⊥ }
     ensures empty { (told : Chronicle) → AllAwaitTheirOwn told empty_world }
     ensures nowhere { (told : Chronicle) (node : PlainNode) (client : PlainClient) (a : Awaited) → client.session.awaited ≡ Some a → AllAwaitTheirOwn told (one_node (with_only node client None)) → ⊥ }
+    ensures any { (told : Chronicle) (node : PlainNode) (client : PlainClient) (a : Awaited) (n c : ℕ) → c < 1000 → client.session.awaited ≡ Some a → AllAwaitTheirOwn told (node_alone n (with_one_at node c client)) → ⊥ }
     ensures rises { (line : LastLine) (told : Chronicle) (node : PlainNode) (client : PlainClient) (a : Awaited) → client.session.awaited ≡ Some a → AwaitTheirOwnIf (Some line) told (one_node (with_only node client None)) → ⊥ }
     ensures left { (line : LastLine) (told : Chronicle) (node : PlainNode) (client : PlainClient) (a : Awaited) → told.last ≡ Some line → client.session.awaited ≡ Some a → AreFollowed told (one_node (with_only node client None)) → ⊥ }
     ensures unnumbered { (told : Chronicle) (node : PlainNode) (client : PlainClient) → AwaitTheirOwnIf None told (one_node (with_only node client None)) }

@@ -131,6 +131,8 @@ made_past r (Event.Item (StreamName.Link l) seq act key) one durable i = i
 made_past r (Event.Item (StreamName.Client m k) seq act key) one durable i = i
 made_past r (Event.Finished (StreamName.Link l) reason) one durable i = i
 made_past r (Event.Finished (StreamName.Client m k) reason) one durable i = i
+made_past r (Event.Stated (StreamName.Link l) role) one durable i = i
+made_past r (Event.Stated (StreamName.Client m k) role) one durable i = i
 made_past r other one durable i = i
 
 pub made_on : (r : Chronicle) (lines : List Event) (one : OwnChange) → is_durable one.change.act ≡ true → IsMadeIn one r.made → IsMadeIn one (after_lines r lines).made

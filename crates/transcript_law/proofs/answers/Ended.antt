@@ -6,7 +6,7 @@ use Rattle.client_session.specs.declared.session.Awaited.{Awaited}
 use Rattle.node_core.specs.Clients.{PlainClient}
 use Rattle.transcript_law.proofs.answers.Rests.{none_asked}
 use Rattle.transcript_law.proofs.invariant.{Begun.{ServesOpen}, ClientWorlds.{ConnsAre, open_then}, ClientsTold.{ClientAgrees}, Holdings.{vb_of}, Owing.{ConnOwed, IsIdle, IsWaitOf, Owed, OwedIf}, Ranged.{IsRanged, NodeRangedIf, SessionRangedIf}, Sessions.{SessionRanged, awaited_numbered}}
-use Rattle.transcript_law.specs.{Feeding.{client_in}, LinesTold.{ClientsKnown, Conns, LastLine, OwnChange, served_then, told_for, with_served}, Questions.{Question, question_of}, StreamsTold.{Asking}}
+use Rattle.transcript_law.specs.{Feeding.{client_in}, LinesTold.{ClientsKnown, Conns, LastLine, OwnChange, TakeoverKnown, served_then, told_for, with_served}, Questions.{Question, question_of}, StreamsTold.{Asking}}
 
 -- a connection's session is in its limits
 session_ranged : (w : PlainWorld) (n c : ℕ) (client : PlainClient) → IsRanged w → client_in (w.nodes n) c ≡ Some client → SessionRanged n client.session
@@ -24,9 +24,9 @@ serves_open (Some l) clients made conns line e n c shut =
     ap (λ (y : LastLine). y.served n c) (sym same) ∙ ap (λ b. served_then b (l.served n c) (clients n c).asking made) shut
 
 -- a group ends, where no frame is in hand
-module _ (w : PlainWorld) (r : Chronicle) (conns : Conns) (ranged : IsRanged w) (are : ConnsAre w conns) (c : Cluster) (a : AgreesIn idle w r c) where
+module _ (w : PlainWorld) (r : Chronicle) (takeovers : ℕ → TakeoverKnown) (conns : Conns) (ranged : IsRanged w) (are : ConnsAre w conns) (c : Cluster) (a : AgreesIn idle w r c) where
   abbrev ended : Chronicle
-  ended = record r { last = with_served r.last r.clients_at conns r.made; conn_at = conns; made = []; ticks = None; changed = false }
+  ended = record r { last = with_served r.last r.clients_at conns r.made; takeover_of = takeovers; conn_at = conns; made = []; ticks = None; changed = false }
 
   conn_ended : (line : LastLine) (n d : ℕ) (client : PlainClient) → client_in (w.nodes n) d ≡ Some client → ClientAgrees w r n d client → ConnOwed line n d r.made (vb_of w n) (r.clients_at n d).asking client.session
       → ConnOwed (record line { served = λ m e. served_then (conns m e) (line.served m e) (r.clients_at m e).asking r.made }) n d [] (vb_of w n) (r.clients_at n d).asking client.session

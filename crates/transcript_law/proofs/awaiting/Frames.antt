@@ -54,7 +54,7 @@ answered_so f s is =
     frame_comes AnyReply (λ v made. IsGentle made) (λ t. t.end.desk ≡ s.end.desk) f s
     (record { opens = λ id ask sync. (tt, tt); closes = λ stream at. (tt, tt); counts = λ link member seq. (let z : true ≡ false = sym is ∙ link in cc); logs = (tt, tt) })
     (record {
-      dropped = λ is. refl;
+      dropped = λ is streams. refl;
       taken = λ bytes read opened. refl;
       refused = λ loud st end same. same;
       asked = λ ask id sync reply own end read may same. same;

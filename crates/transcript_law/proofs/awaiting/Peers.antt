@@ -4,7 +4,7 @@ use Rattle.transcript_law.proofs.Words.{ℕ, Bool, true, false, List, [], refl, 
 use Rattle.client_session.proofs.Conduct.{either}
 use Rattle.dcp_producer.specs.Producers.{is_open, member_of, stream_at}
 unfoldable use Rattle.dcp_producer.specs.Serving.{acknowledged}
-use Rattle.dcp_producer.specs.Serving.{bytes_acknowledged, closed_sent, control_answered, count_answered, count_requested, counted_by, fed_stream, log_answered, message_answered, noop_answered, open_refusal, opened_unless, opening_requested, opens, read_answered, refusal_requested, row_answered, stream_closed, weighed}
+use Rattle.dcp_producer.specs.Serving.{response_heard, bytes_acknowledged, closed_sent, control_answered, count_answered, count_requested, counted_by, fed_stream, log_answered, message_answered, noop_answered, open_refusal, opened_unless, opening_requested, opens, read_answered, refusal_requested, row_answered, stream_closed, weighed}
 use Rattle.mcbp_dcp.specs.declared.message.DcpMsg.TheVariants as msg
 use Rattle.mcbp_dcp.specs.Rows.{dcp_opcodes}
 use Rattle.node_core.specs.Peers.{PlainPeer, peer_answered, peer_frames, peer_heard}
@@ -85,7 +85,7 @@ module _ (states : States) (all : AllAt Still states) where
     frame_goes : Goes (frame_answered f s)
     unfolding frame_answered
     frame_goes =
-        either Goes (f.magic == RESPONSE) (Done s) (if list_any (λ o. o == f.opcode) dcp_opcodes then read_answered f (read_of f) s else Done (status_sent f status.UnknownCommand s)) (idle_goes (Done s) tt)
+        either Goes (f.magic == RESPONSE) (Done (response_heard f s)) (if list_any (λ o. o == f.opcode) dcp_opcodes then read_answered f (read_of f) s else Done (status_sent f status.UnknownCommand s)) (idle_goes (Done (response_heard f s)) tt)
         (either Goes (list_any (λ o. o == f.opcode) dcp_opcodes) (read_answered f (read_of f) s) (Done (status_sent f status.UnknownCommand s)) (read_goes (read_of f)) (idle_goes (Done (status_sent f status.UnknownCommand s)) tt))
 
   pub peer_goes : (f : Frame) (peer : PlainPeer) → KeptOr (after (peer_answered f peer) states).1.resolved states (after (peer_answered f peer) states).0

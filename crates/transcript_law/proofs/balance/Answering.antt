@@ -1,6 +1,6 @@
 -- what the answer to a frame leaves of the window, and what it puts on its way to the consumer
 use Rattle.std.proofs.Common.{◌≡◌, ℕ, ◌<◌, ◌≤◌, Bool, true, false, List, [], ◌++◌, length, refl, ap, ◌∙◌, subst, arith, ◌⊎◌, inl, inr, Option, Some, None, Result, Ok, Err}
-use Rattle.std.specs.Prelude.{◌-◌, if◌then◌else◌, ◌==◌, ◌^◌, codes, decimal}
+use Rattle.std.specs.Prelude.{map, ◌-◌, if◌then◌else◌, ◌==◌, ◌^◌, codes, decimal}
 use Rattle.std.specs.Int.{w32, w64, to_be_bytes}
 use Rattle.std.specs.Option.{option_map}
 use Rattle.std.proofs.lemmas.Fmt.{length-decimal-le}
@@ -44,7 +44,7 @@ use Rattle.dcp_producer.specs.declared.desk.Handshake.{Handshake}
 use Rattle.dcp_producer.specs.declared.desk.Handshake.TheVariants as shaken
 use Rattle.dcp_producer.proofs.Decimals.{sizes}
 use Rattle.dcp_producer.specs.Producers.{PlainProducer, PlainStream, Served, is_open, is_sync, member_of, stream_at, without_stream}
-use Rattle.dcp_producer.specs.Serving.{status_frame, status_sent, open_refusal as shaken_refusal, opened_unless, controlled, controlled_as, sized, sized_as, log_of_reply, high_of_reply, ask_verdict, request_refusal, opens, next_stream, with_asked, verdict_with, stream_verdict, with_granted, stream_answered, opened_answered, opening_requested, refused_answered, refusal_requested, stream_request, closed_sent, stream_closed, close_requested, log_sent, log_answered, log_requested, fed_stream, weighed, counted_by, count_answered, count_requested, acknowledged, message_answered, row_answered, read_answered, frame_answered}
+use Rattle.dcp_producer.specs.Serving.{heard, is_taken, response_heard, status_frame, status_sent, open_refusal as shaken_refusal, opened_unless, controlled, controlled_as, sized, sized_as, log_of_reply, high_of_reply, ask_verdict, request_refusal, opens, next_stream, with_asked, verdict_with, stream_verdict, with_granted, stream_answered, opened_answered, opening_requested, refused_answered, refusal_requested, stream_request, closed_sent, stream_closed, close_requested, log_sent, log_answered, log_requested, fed_stream, weighed, counted_by, count_answered, count_requested, acknowledged, message_answered, row_answered, read_answered, frame_answered}
 
 -- one more answer, or none, behind these bytes
 abbrev pub Answers : List ℕ → List ℕ → Type 0
@@ -320,12 +320,17 @@ module _ (f : Frame) (small : f.opaque < 2 ^ 32) (states : States) (short : (vb 
   read_becomes (Some read) =
       either_becomes (f.datatype == 0) (window_read read s.end.handshake (room_of s.end)) (room_of s.end) (row_answered f read s) (Done (status_sent f status.Einval s)) (row_becomes read) (refused f small status.Einval s)
 
+  -- a response leaves the window, and has no answer
+  response_becomes : (b : Bool) → Becomes (room_of s.end) (Done (if b then record s { end = record s.end { streams = map (heard f.opaque) s.end.streams } } else s))
+  response_becomes true = (refl, inl refl)
+  response_becomes false = (refl, inl refl)
+
   pub frame_becomes : Becomes (window_behind f s.end.handshake (room_of s.end)) (frame_answered f s)
   unfolding frame_answered
   frame_becomes =
       let h = s.end.handshake in let w : Room = (room_of s.end) in
       let known : Bool = list_any (λ o. o == f.opcode) dcp_opcodes in
-      either_becomes (f.magic == RESPONSE) w (if known then window_of f (read_of f) h w else w) (Done s) (if known then read_answered f (read_of f) s else Done (status_sent f status.UnknownCommand s)) (refl, inl refl)
+      either_becomes (f.magic == RESPONSE) w (if known then window_of f (read_of f) h w else w) (Done (response_heard f s)) (if known then read_answered f (read_of f) s else Done (status_sent f status.UnknownCommand s)) (response_becomes (is_taken f))
       (either_becomes known (window_of f (read_of f) h w) w (read_answered f (read_of f) s) (Done (status_sent f status.UnknownCommand s)) (read_becomes (read_of f)) (refused f small status.UnknownCommand s))
 
 -- ---- which frames change the window

@@ -27,7 +27,10 @@ use Rattle.dcp_consumer.proofs.Counted.{messages}
 use Rattle.dcp_producer.proofs.OneStream.{no_frame_of, one_came, one_frame_of, shut_frame_of}
 use Rattle.dcp_producer.specs.declared.halt.Halt.{Halt}
 use Rattle.dcp_producer.specs.declared.next_frame.NextFrame.TheVariants as next
-use Rattle.dcp_producer.specs.Frames.{Next, STATE_CHANGED, act_message, close_sent, marker_flags, next_by, next_frame, over, place_requested, place_said, placed_next, reaches_end, take_answered, taken_next}
+use Rattle.takeover.specs.GivingUp.{done}
+use Rattle.takeover.specs.declared.give_up.{GiveStep.{GiveStep}, GiveUp.{GiveUp}}
+use Rattle.vb_types.specs.declared.role.Role.{Role}
+use Rattle.dcp_producer.specs.Frames.{Next, STATE_CHANGED, act_message, alive_next, none_next, role_of, state_next, step_next, close_sent, marker_flags, next_by, next_frame, over, place_requested, place_said, placed_next, reaches_end, take_answered, taken_next}
 use Rattle.dcp_producer.specs.Producers.{PlainStream, Served}
 use Rattle.dcp_producer.specs.Pulling.{Pulling, frame_put, none_quiet, one_frame, pull_of}
 use Rattle.transcript_law.proofs.balance.Rooms.{Room, room_of}
@@ -68,7 +71,7 @@ act_counts c (act.Abort prepared) = tt
 abbrev NextIs : Next → Type 0
 NextIs (next.Put m line, left) = IsPut (dcp_frame m left.opaque left.vb)
 NextIs (next.End reason, left) = IsPut (dcp_frame (msg.StreamEnd reason) left.opaque left.vb)
-NextIs (next.Quiet waits, left) = Unit {0}
+NextIs (next.Quiet for, left) = Unit {0}
 
 abbrev Nexts : Prog Next → Type 0
 Nexts prog = Always AnyCall NextIs prog
@@ -85,6 +88,19 @@ module _ (name : StreamName) (stream : PlainStream) (fits : StreamFits stream) w
   end_is : (reason : ℕ) → NextIs (over reason stream)
   end_is reason = (end_readable reason, (messages (msg.StreamEnd reason) stream.opaque stream.vb).1 tt)
 
+  state_readable : (told : Role) → Readable (dcp_frame (msg.SetVbucketState told) stream.opaque stream.vb)
+  unfolding dcp_frame
+  state_readable told = let o = fits.opaque in let v = fits.vb in search arith
+
+  -- a state counts too, and where none is put nothing is
+  state_is : (g : GiveUp) (told : Option Role) → NextIs (state_next name stream g told)
+  state_is g None = tt
+  state_is g (Some told) = (state_readable told, (messages (msg.SetVbucketState told) stream.opaque stream.vb).1 tt)
+
+  none_is : (o : Option GiveUp) → NextIs (none_next name stream o)
+  none_is None = tt
+  none_is (Some g) = state_is (done g) (role_of (done g).step)
+
   marker_is : (x : Snapshot) → NextIs (taken_next name stream (answer.Taken x))
   marker_is x = (marker_readable x.start x.end (marker_flags x.disk), (messages (msg.SnapshotMarker x.start x.end (marker_flags x.disk)) stream.opaque stream.vb).1 tt)
 
@@ -94,7 +110,7 @@ module _ (name : StreamName) (stream : PlainStream) (fits : StreamFits stream) w
     where
       by : (a : VbAnswer) → NextIs (taken_next name stream a)
       by (answer.Taken snapshot) = marker_is snapshot
-      by answer.Nothing = tt
+      by answer.Nothing = none_is stream.gives
       by other = end_is STATE_CHANGED
 
   place_is : (from : Option Place) → Nexts (placed_next name stream from)
@@ -106,9 +122,23 @@ module _ (name : StreamName) (stream : PlainStream) (fits : StreamFits stream) w
   reached_is true = (tt, λ reply any. end_is 0)
   reached_is false = (tt, λ reply any. place_is (place_said reply))
 
-  more_is : (b : Bool) → Nexts (if b then Done (over STATE_CHANGED stream) else if reaches_end stream.until stream.marked then close_sent stream else place_requested name stream)
+  step_is : (g : GiveUp) (step : GiveStep) → Nexts (step_next name stream g step)
+  step_is g GiveStep.SendAll = reached_is false
+  step_is g GiveStep.SendPending = state_is g (role_of GiveStep.SendPending)
+  step_is g GiveStep.AwaitPending = state_is g (role_of GiveStep.AwaitPending)
+  step_is g GiveStep.Yield = state_is g (role_of GiveStep.Yield)
+  step_is g GiveStep.SendRest = reached_is false
+  step_is g GiveStep.SendActive = state_is g (role_of GiveStep.SendActive)
+  step_is g GiveStep.AwaitActive = state_is g (role_of GiveStep.AwaitActive)
+  step_is g GiveStep.End = reached_is true
+
+  alive_is : (o : Option GiveUp) → Nexts (alive_next name stream o)
+  alive_is None = reached_is (reaches_end stream.until stream.marked)
+  alive_is (Some g) = step_is g g.step
+
+  more_is : (b : Bool) → Nexts (if b then Done (over STATE_CHANGED stream) else alive_next name stream stream.gives)
   more_is true = end_is STATE_CHANGED
-  more_is false = reached_is (reaches_end stream.until stream.marked)
+  more_is false = alive_is stream.gives
 
   next_is : Nexts (next_frame name stream)
   unfolding next_frame
@@ -161,7 +191,7 @@ module _ (s : Served) (states : States) where
       came free (next.Put m line, left) is = (dcp_frame m left.opaque left.vb, is, some, refl, passes s (dcp_frame m left.opaque left.vb) line (left ∷ []) 1 free)
       came free (next.End reason, left) is =
           (dcp_frame (msg.StreamEnd reason) left.opaque left.vb, is, some, refl, passes s (dcp_frame (msg.StreamEnd reason) left.opaque left.vb) (event.Finished s.end.desk.stream reason) [] 0 free)
-      came free (next.Quiet waits, left) is = (refl, refl)
+      came free (next.Quiet for, left) is = (refl, refl)
 
       by : (b : Bool) → lets_through s.end ≡ b → Goes
       by true free = subst (λ prog. Went s (after prog states).1) (sym (one_frame_of s stream one free))

@@ -1,14 +1,15 @@
 -- STREAM_REQUEST of a client: whatever its producer and its vBucket say, the line is lawful, and all agrees
 use Rattle.std.specs.Prelude.{◌≡◌, ◌<◌, ◌≤◌, ◌+◌, ◌++◌, ◌==◌, ◌^◌, ◌&&◌, if◌then◌else◌, not}
 use Rattle.transcript_law.proofs.Words.{ℕ, Bool, true, false, List, [], length, refl, sym, ap, ◌∙◌, subst, arith, inl, inr, is_some, Role, ⊎_elim, eqb-false, eqb-true, Option, Some, None, Status, Event, Frame, LogEntry, StreamAsk, AskAnswer, Verdict, Continue, Roll, rule, Cluster, States, PlainNode, PlainWorld, PlainProducer, PlainStream, Plain, is_active, stream_at, open_refusal, open_outcome, judged_open, Chronicle, after, with_vb_at, call_at, with_id, refuse, request_refusal, verdict_with, is_sync}
-use Rattle.dcp_producer.specs.{Clients.{IsShortLog}, Producers.{Served, stream_at as kept_at, with_opened}, Serving.{new_stream, next_stream, opened_answered, opening_requested, opens, refusal_requested, refused_answered, with_asked}}
+use Rattle.dcp_producer.specs.declared.desk.Desk.{Desk}
+use Rattle.dcp_producer.specs.{Clients.{IsShortLog}, Producers.{Served, is_client, stream_at as kept_at, with_opened}, Serving.{new_stream, next_stream, opened_answered, opening_requested, opens, refusal_requested, refused_answered, with_asked}}
 unfoldable use Rattle.dcp_producer.specs.Serving.{stream_answered, stream_request}
 use Rattle.mcbp_frame.proofs.Cases.{front}
 use Rattle.node_core.specs.Clients.{PlainClient, delivered}
 use Rattle.transcript_law.proofs.indexers.{Asking.{s as asking, answer, asked_goes, held_open, known, kept_left, left, mine, none_known, none_open, old, request, served, told, was}, Hands.{Goes, HandedUp}, Passing.{agrees, behind, cluster}}
 use Rattle.transcript_law.proofs.{disks.Absent.{nothing_here}, indexers.Reasons.{away_as, open_reason, own_reason, reason_of, zero_reason}}
 use Rattle.transcript_law.proofs.indexers.Granting.{granted_is, log_short, opened, opened_changes, opens_ranged, ranged_order}
-use Rattle.transcript_law.proofs.indexers.{Questions.{in_hand}, Quiet.{put_again, put_here, put_there}, Refusals.{is_left, is_opened, none_kept, own_grant, own_named, own_refusal, said_away, takes_is, zero_refused}, Setting.{sync_as}, Streams.{AreOne, at_opened_here, at_opened_there, one_opened, open_opened}}
+use Rattle.transcript_law.proofs.indexers.{Questions.{in_hand}, Quiet.{put_again, put_here, put_there}, Refusals.{is_left, is_opened, is_plain, none_kept, own_grant, own_named, own_refusal, said_away, takes_is, zero_refused}, Setting.{sync_as}, Streams.{AreOne, at_opened_here, at_opened_there, one_opened, open_opened}}
 use Rattle.transcript_law.proofs.indexers.Worlds.{free_own, step_at, step_quiet, vb_here, world_with}
 use Rattle.transcript_law.proofs.invariant.{Carried.{all_there}, ClientsKept.{IsFree}, Agreement.{idle, AgreesAt, IsRefused, VbAgrees, is_down, power_of}, ClientsTold.{KeptIs, setup_of}, Holdings.{vb_of}, OpenStreams.{Among, AreKept, kept_asked, kept_opened}, Seats.{seat}, Tables.{id_here, id_there}}
 use Rattle.transcript_law.proofs.links.Verdicts.{active_vb_lines, go_lawful, opens_active, opens_free, refusal_named, own_said, roll_lawful}
@@ -113,9 +114,13 @@ module _ (w : PlainWorld) (n c : ℕ) (node : PlainNode) (r : Chronicle) (f : Fr
             (kept_left w n c node r f states lines client up ask asks q)));
       })
 
+  -- it is a client's
+  of_client : is_client p.desk.stream ≡ true
+  of_client = ap (λ (d : Desk). is_client d.stream) (mine w n c node r f states lines client up ask asks).conn.desk
+
   -- it takes a number where the vBucket is asked to open a stream
   counts : (b : Bool) → opens p v ask ≡ b → opened_after (setup_of p.handshake) (left_at v) ask p.asked ≡ (if b then p.asked + 1 else p.asked)
-  counts b e = ap (λ t. if t then p.asked + 1 else p.asked) (takes_is p v (left_at v) ask (none_known w n c node r f states lines client up ask asks) ∙ e)
+  counts b e = ap (λ t. if t then p.asked + 1 else p.asked) (takes_is p v (left_at v) ask of_client (none_known w n c node r f states lines client up ask asks) ∙ e)
 
   granted_no : (said : AskAnswer) → IsRefusal said → GrantsAs (so_far.role_at n v) said
   granted_no said is = subst (GrantsAs (so_far.role_at n v)) (sym is.1) tt
@@ -128,8 +133,8 @@ module _ (w : PlainWorld) (n c : ℕ) (node : PlainNode) (r : Chronicle) (f : Fr
       → Comes (st, answer w n c node r f states lines client up ask asks st p log high (verdict_with (request_refusal p ask) verdict))
   refused_with shut st same log high verdict named is given lawful short =
       let said : AskAnswer = verdict_with (request_refusal p ask) verdict in
-      let good = own_named p ask verdict named is so_far.tree log high in
-      quiet st same p refl refl refl refl (mine w n c node r f states lines client up ask asks).kept log high said (refusal_no_go said good.1) (lawful said good.0 (granted_no said good.1)) (own_refusal p (left_at v) ask verdict is) (reason_of p (so_far.role_at n v) (left_at v) ask verdict given) (sym (counts false shut)) short
+      let good = own_named p ask verdict of_client named is so_far.tree log high in
+      quiet st same p refl refl refl refl (mine w n c node r f states lines client up ask asks).kept log high said (refusal_no_go said good.1) (lawful said good.0 (granted_no said good.1)) (own_refusal p (left_at v) ask of_client verdict is) (reason_of p (so_far.role_at n v) (left_at v) ask verdict given) (sym (counts false shut)) short
 
   refusal_of : (why : Status) → IsRefused (refuse why) → (code : ℕ) → refuse why ≡ AskAnswer.Refuse code → code ≡ 0 → ⊥
   refusal_of why named code e z = let same : status_code why ≡ code = cc in named.0 (same ∙ z)
@@ -175,16 +180,16 @@ module _ (w : PlainWorld) (n c : ℕ) (node : PlainNode) (r : Chronicle) (f : Fr
     sync = is_sync p.handshake
 
     free_here : kept_at v p.streams ≡ None
-    free_here = none_kept p (left_at v) ask v open_it
+    free_here = none_kept p (left_at v) ask of_client v open_it
 
     own_so : (said : AskAnswer) → RefusesOwn (setup_of p.handshake) (left_at v) ask said
-    own_so said = own_grant p (left_at v) ask v open_it (λ g e over. none_open w n c node r f states lines client up ask asks v free_here g e over) said
+    own_so said = own_grant p (left_at v) ask of_client v open_it (λ g e over. none_open w n c node r f states lines client up ask asks v free_here g e over) said
 
     free_left : IsFreeOf (left_at v)
     free_left g e over = none_open w n c node r f states lines client up ask asks v free_here g e over
 
     reason_so : (said : AskAnswer) → RefusesAs (so_far.role_at n v) (left_at v) ask said → RefusesBy (setup_of p.handshake) p.asked (so_far.role_at n v) (left_at v) ask said
-    reason_so said given over zero = inr (is_left p (left_at v) ask v open_it, given)
+    reason_so said given over zero = inr (is_left p (left_at v) ask of_client v open_it, given)
 
     -- it is not let continue
     not_let : (st : States) → ((q : ℕ) → st q ≡ states q) → (log : List LogEntry) (high : ℕ) (said : AskAnswer) → IsNoGo said → LawfulSaid so_far n v ask high log said → RefusesAs (so_far.role_at n v) (left_at v) ask said → IsShortLog log
@@ -246,7 +251,7 @@ module _ (w : PlainWorld) (n c : ℕ) (node : PlainNode) (r : Chronicle) (f : Fr
             (subst (λ o. KeptIs so_far.tree (so_far.branch_at n v) (so_far.held n v) (vb_of new n v) false (Some granted) o) (sym (at_opened_here v p.streams stream free_here refl)) (
               refl,
               granted_is so_far k (agrees w n c node r f states lines client up).sound n v (seat n v) pv at active ask id f (setup_after (known w n c node r f states lines client up ask asks).setup (served w n c node r f states lines client up ask asks))
-                  (served w n c node r f states lines client up ask asks) sync syncs small free opens_it ruled (so_far.held n v) (vb_of new n v) (vb_here w n c node st (Some client') v ∙ put_here states v pv'),
+                  (served w n c node r f states lines client up ask asks) sync syncs small free opens_it ruled (is_plain p (left_at v) ask of_client v open_it) (so_far.held n v) (vb_of new n v) (vb_here w n c node st (Some client') v ∙ put_here states v pv'),
             ))
 
         kept_there : (q : ℕ) → (q ≡ v → ⊥) → Kept q
@@ -278,7 +283,7 @@ module _ (w : PlainWorld) (n c : ℕ) (node : PlainNode) (r : Chronicle) (f : Fr
           window = refl;
           kept = kept_opened p stream refl (mine w n c node r f states lines client up ask asks).kept;
           one = one_opened stream p.streams free_here (mine w n c node r f states lines client up ask asks).one;
-          opened = λ t i. is_opened p (left_at v) ask v open_it;
+          opened = λ t i. is_opened p (left_at v) ask of_client v open_it;
           streams = λ q. kept_by q (q == v) refl;
         })
 

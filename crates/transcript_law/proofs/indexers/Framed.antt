@@ -1,10 +1,11 @@
 -- a pull so far: its lines are lawful, and the world with the connection as it is then agrees; and one more line with its frame
-use Rattle.std.specs.Prelude.{◌≡◌, ◌⊎◌, ◌++◌, ◌∷◌, ◌==◌, ◌&&◌, if◌then◌else◌}
+use Rattle.std.specs.Prelude.{◌≡◌, ◌⊎◌, ◌++◌, ◌∷◌, ◌==◌, ◌&&◌, ◌||◌, if◌then◌else◌}
 use Rattle.transcript_law.proofs.Words.{ℕ, Bool, true, false, and_parts, eqb-true, List, [], length, refl, sym, ap, ◌∙◌, subst, inl, ⊎_elim, Some, None, option_map, eq-eqb, ne_eqb, Chronicle, Cluster, Event, Frame, LawfulLine, PlainNode, PlainStream, PlainWorld, Served, States, Turn, More, Stop, after_line, after_lines, is_frame, spelling}
 use Rattle.client_session.specs.Serving.{PlainSession}
 use Rattle.dcp_producer.specs.Cuts.{IsShort}
 use Rattle.dcp_producer.specs.Producers.{replaced, stream_at as kept_at, without_id}
-use Rattle.dcp_producer.specs.Pulling.{Pulling, QuietOnes, with_quiet}
+use Rattle.dcp_producer.specs.Pulling.{Pulling, QuietOnes, first_wait, with_quiet}
+use Rattle.dcp_producer.specs.declared.next_frame.Waits.{Waits}
 use Rattle.flow_control.specs.Windows.{is_open as lets_through, with_put}
 use Rattle.mcbp_frame.specs.{Cutting.{frame_in}, Frames.{first_frame}}
 use Rattle.node_core.specs.Clients.{PlainClient}
@@ -21,6 +22,17 @@ table_again table n c m d = elim (m == n && d == c) as (λ b. (m == n && d == c)
     [ true ↦ λ e. let both = and_parts (m == n) (d == c) e in (λ i. table (sym (eqb-true m n both.0) i) (sym (eqb-true d c both.1) i)) | false ↦ λ e. refl ] refl
 
 -- ---- what is known behind a frame of the stream of the vBucket v
+
+-- what a stream that is quiet waits for: that more is saved, or nothing. None waits for the answer to a state
+abbrev pub wait_of : Bool → Waits
+wait_of true = Waits.Saved
+wait_of false = Waits.Nothing
+
+pub both_wait : (a b : Bool) → first_wait (wait_of a) (wait_of b) ≡ wait_of (a || b)
+both_wait true true = refl
+both_wait true false = refl
+both_wait false true = refl
+both_wait false false = refl
 
 module _ (r : Chronicle) (n c : ℕ) (bytes : List ℕ) (line : StreamLine) (v : ℕ) (header : vb_in_header bytes ≡ v) where
   abbrev k : ClientKnown
@@ -116,7 +128,7 @@ module _ (w : PlainWorld) (r : Chronicle) (cl : Cluster) (n c : ℕ) (node : Pla
       pub read_is : after_lines r so.lines ≡ read
       pub same : p.served.end ≡ s.end
       pub waits : Bool
-      pub quiet_is : p.quiet ≡ with_quiet t.id waits q
+      pub quiet_is : p.quiet ≡ with_quiet t.id (wait_of waits) q
       pub quiet : waits ≡ false → IsQuietNow read t
       pub waiting : waits ≡ true → IsWaitingNow read t
 

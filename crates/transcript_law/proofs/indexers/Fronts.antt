@@ -3,11 +3,11 @@ use Rattle.std.specs.Prelude.{◌≡◌, ◌⊎◌, ◌≤◌, ◌<◌, ◌++◌
 use Rattle.transcript_law.proofs.Words.{ℕ, zero, suc, Bool, true, false, List, [], length, take, drop, refl, sym, ap, ◌∙◌, subst, arith, ⊎_elim, append-nil, append_assoc, length-append, take-append-drop, Chronicle, Cluster, Done, Halt, More, PlainNode, PlainProducer, PlainStream, PlainWorld, Served, States, Stop, TakesSnapshots, Turn, Why, after, after_bind, after_lines, bind, go_on, pulled, repeated, why_of}
 use Rattle.client_session.specs.Serving.{PlainSession}
 unfoldable use Rattle.dcp_producer.specs.Pulling.{frames_put, one_frame, one_turn}
-use Rattle.dcp_producer.specs.Pulling.{Pulling, QuietOnes, is_quiet, none_quiet, pull_of, quiet_halt, turns_came}
+use Rattle.dcp_producer.specs.Pulling.{Pulling, QuietOnes, halt_of, is_quiet, none_quiet, pull_of, quiet_halt, turns_came}
 use Rattle.dcp_producer.specs.Producers.{with_turn}
 use Rattle.dcp_producer.specs.Turns.{turns_of}
 use Rattle.flow_control.specs.Windows.{is_open as lets_through}
-use Rattle.transcript_law.proofs.indexers.{Framed.{IsQuietNow, RestsNow, SoFar, WaitsNow, mine}, Pulls.{Came, Pulled, one_goes}, Rounds.{among_append, among_order, round}}
+use Rattle.transcript_law.proofs.indexers.{Framed.{wait_of, IsQuietNow, RestsNow, SoFar, WaitsNow, mine}, Pulls.{Came, Pulled, one_goes}, Rounds.{among_append, among_order, round}}
 use Rattle.transcript_law.proofs.invariant.OpenStreams.{Among}
 use Rattle.vbucket.specs.Takes.{TakesExactly}
 
@@ -107,6 +107,7 @@ module _ (takes : TakesSnapshots) (exactly : TakesExactly) (w : PlainWorld) (r :
     pub idle : why_of halted ≡ Why.Idle → (u : PlainStream) → Among u s.end.streams → IsQuietNow w r cl n c node session (after_lines r so.lines) u
     pub rest : why_of halted ≡ Why.WaitSaved → (u : PlainStream) → Among u s.end.streams → RestsNow w r cl n c node session (after_lines r so.lines) u
     pub one : why_of halted ≡ Why.WaitSaved → WaitsNow w r cl n c node session (after_lines r so.lines) s.end.streams
+    pub unstated : why_of halted ≡ Why.WaitState → ⊥
     pub full : why_of halted ≡ Why.Full → lets_through s.end.window ≡ false
     pub opens : (why_of halted ≡ Why.Idle) ⊎ (why_of halted ≡ Why.WaitSaved) → lets_through s.end.window ≡ true
 
@@ -114,35 +115,37 @@ module _ (takes : TakesSnapshots) (exactly : TakesExactly) (w : PlainWorld) (r :
   Frames (states, More p) = Goes states p
   Frames (states, Stop stopped) = Stopped states stopped.0 stopped.1
 
-  waits_not : (q : QuietOnes) → why_of (quiet_halt q) ≡ Why.Idle → q.waits ≡ false
-  waits_not q e = by q.waits refl e
+  waits_not : (q : QuietOnes) (saves : Bool) → q.waits ≡ wait_of saves → why_of (quiet_halt q) ≡ Why.Idle → saves ≡ false
+  waits_not q saves is e = by saves (sym (ap (λ x. why_of (halt_of x)) is) ∙ e)
     where
-      by : (b : Bool) → q.waits ≡ b → why_of (if b then Halt.WaitSaved else Halt.Idle) ≡ Why.Idle → q.waits ≡ false
-      by true f e = cc
-      by false f e = f
-
-  waits_so : (q : QuietOnes) → why_of (quiet_halt q) ≡ Why.WaitSaved → q.waits ≡ true
-  waits_so q e = by q.waits refl e
-    where
-      by : (b : Bool) → q.waits ≡ b → why_of (if b then Halt.WaitSaved else Halt.Idle) ≡ Why.WaitSaved → q.waits ≡ true
-      by true f e = f
-      by false f e = cc
-
-  not_full : (q : QuietOnes) → why_of (quiet_halt q) ≡ Why.Full → ⊥
-  not_full q e = by q.waits e
-    where
-      by : (b : Bool) → why_of (if b then Halt.WaitSaved else Halt.Idle) ≡ Why.Full → ⊥
+      by : (b : Bool) → why_of (halt_of (wait_of b)) ≡ Why.Idle → b ≡ false
       by true f = cc
+      by false f = refl
+
+  waits_so : (q : QuietOnes) (saves : Bool) → q.waits ≡ wait_of saves → why_of (quiet_halt q) ≡ Why.WaitSaved → saves ≡ true
+  waits_so q saves is e = by saves (sym (ap (λ x. why_of (halt_of x)) is) ∙ e)
+    where
+      by : (b : Bool) → why_of (halt_of (wait_of b)) ≡ Why.WaitSaved → b ≡ true
+      by true f = refl
       by false f = cc
+
+  -- nor is it full then, or is a state's answer waited for
+  neither : (q : QuietOnes) (saves : Bool) (why : Why) → q.waits ≡ wait_of saves → why_of (quiet_halt q) ≡ why → (why ≡ Why.Full → ⊥) × (why ≡ Why.WaitState → ⊥)
+  neither q saves why is e = by saves (sym (ap (λ x. why_of (halt_of x)) is) ∙ e)
+    where
+      by : (b : Bool) → why_of (halt_of (wait_of b)) ≡ why → (why ≡ Why.Full → ⊥) × (why ≡ Why.WaitState → ⊥)
+      by true f = (λ g. let z : Why.WaitSaved ≡ Why.Full = f ∙ g in cc, λ g. let z : Why.WaitSaved ≡ Why.WaitState = f ∙ g in cc)
+      by false f = (λ g. let z : Why.Idle ≡ Why.Full = f ∙ g in cc, λ g. let z : Why.Idle ≡ Why.WaitState = f ∙ g in cc)
 
   -- every stream had its turn
   all_turned : (p0 : Pulling) (states : States) (p : Pulling) → lets_through p0.served.end.window ≡ true → Rounded p0 (length p0.served.end.streams) states p → Stopped states p.served (quiet_halt p.quiet)
   all_turned p0 states p through g = record {
     so = g.pulled.so;
-    idle = λ e u i. g.pulled.still (waits_not p.quiet e) u i (asked u i);
+    idle = λ e u i. g.pulled.still (waits_not p.quiet g.pulled.saves g.pulled.waits_is e) u i (asked u i);
     rest = λ e u i. g.pulled.rest u i (asked u i);
-    one = λ e. (g.pulled.one (waits_so p.quiet e)).0;
-    full = λ e. absurd (not_full p.quiet e);
+    one = λ e. (g.pulled.one (waits_so p.quiet g.pulled.saves g.pulled.waits_is e)).0;
+    unstated = λ e. (neither p.quiet g.pulled.saves (why_of (quiet_halt p.quiet)) g.pulled.waits_is refl).1 e;
+    full = λ e. absurd ((neither p.quiet g.pulled.saves (why_of (quiet_halt p.quiet)) g.pulled.waits_is refl).0 e);
     opens = λ e. ap lets_through g.window ∙ through;
   }
     where
@@ -165,7 +168,7 @@ module _ (takes : TakesSnapshots) (exactly : TakesExactly) (w : PlainWorld) (r :
       by : (b : Bool) → lets_through p.served.end.window ≡ b → Frames (after (if b then bind (repeated (length p.served.end.streams) one_turn p) (λ turns. Done (turns_came turns)) else Done (Stop (p.served, Halt.Full))) states)
       by true through = subst Frames (sym (after_bind (repeated (length p.served.end.streams) one_turn p) (λ turns. Done (turns_came turns)) states))
           (came through (after (repeated (length p.served.end.streams) one_turn p) states).0 (after (repeated (length p.served.end.streams) one_turn p) states).1 (turns_go (length p.served.end.streams) p states (omega arith) through g))
-      by false shut = record { so = g.so; idle = λ e. cc; rest = λ e. cc; one = λ e. cc; full = λ e. shut; opens = λ e. ⊎_elim (λ i. cc) (λ w. cc) e }
+      by false shut = record { so = g.so; idle = λ e. cc; rest = λ e. cc; one = λ e. cc; unstated = λ e. cc; full = λ e. shut; opens = λ e. ⊎_elim (λ i. cc) (λ w. cc) e }
 
   frames_go : (k : ℕ) (p : Pulling) (states : States) → Goes states p → Frames (after (repeated k one_frame p) states)
   frames_go zero p states g = g
@@ -187,8 +190,8 @@ module _ (takes : TakesSnapshots) (exactly : TakesExactly) (w : PlainWorld) (r :
   pull_ends k s states g =
       let p : Pulling = pull_of s none_quiet in
       subst Ends (sym (after_bind (repeated k one_frame p) pulled states))
-      (by (after (repeated k one_frame p) states).0 (after (repeated k one_frame p) states).1 (frames_go k p states (record { so = g; still = λ none u i quiet. let z : true ≡ false = sym quiet in cc; rest = λ u i quiet. let z : true ≡ false = sym quiet in cc; one = λ waits. cc })))
+      (by (after (repeated k one_frame p) states).0 (after (repeated k one_frame p) states).1 (frames_go k p states (record { so = g; saves = false; waits_is = refl; still = λ none u i quiet. let z : true ≡ false = sym quiet in cc; rest = λ u i quiet. let z : true ≡ false = sym quiet in cc; one = λ waits. cc })))
     where
       by : (states' : States) (x : Turn Pulling (Served × Halt)) → Frames (states', x) → Ends (after (pulled x) states')
-      by states' (More p) d = record { so = d.so; idle = λ e. cc; rest = λ e. cc; one = λ e. cc; full = λ e. cc; opens = λ e. ⊎_elim (λ i. cc) (λ w. cc) e }
+      by states' (More p) d = record { so = d.so; idle = λ e. cc; rest = λ e. cc; one = λ e. cc; unstated = λ e. cc; full = λ e. cc; opens = λ e. ⊎_elim (λ i. cc) (λ w. cc) e }
       by states' (Stop stopped) d = d

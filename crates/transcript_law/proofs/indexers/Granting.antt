@@ -3,7 +3,7 @@ use Rattle.std.specs.Prelude.{◌≡◌, ◌<◌, ◌≤◌, ◌∷◌, ◌++◌
 use Rattle.branch_model.proofs.Ruling.{continue_top, upper_le}
 use Rattle.branch_model.specs.Logs.{Falls, IsFront}
 use Rattle.transcript_law.proofs.Words.{ℕ, Bool, true, false, List, [], length, refl, sym, ap, ◌∙◌, subst, arith, nat_tests, and_parts, eq-eqb, ne_eqb, eqb-false, eqb-true, All-nil, find-append, option_or, Option, Some, None, Status, LogEntry, StreamAsk, Change, Continue, rule, effective_se, effective_ss, front, uuid_of, Cluster, Plain, Stream, Sound, is_active, stream_at, new_stream, open_refusal, is_ranged, id_refusal, first_reason, Frame, PlainStream, Chronicle}
-use Rattle.dcp_producer.specs.Serving.{new_stream as kept_stream}
+use Rattle.dcp_producer.specs.Serving.{gives_of, new_stream as kept_stream}
 use Rattle.transcript_law.proofs.invariant.{Agreement.{VbAgrees, top}, Bounded.{SoundCluster}, Carried.{sound_streams}, Carrying.{StreamsChanged}, ClientsTold.{PlaceIs, StreamIs}, Holdings.{ChangeFits, IsWriterIf}}
 use Rattle.transcript_law.specs.{ClientFrames.{Request, is_sync}, ClientStreams.{new_stream as known_stream, stream_view}, StreamsTold.{ClientStream, Setup}}
 
@@ -93,7 +93,7 @@ module _ (r : Chronicle) (k : Cluster) (sound : SoundCluster top k) (n v p : ℕ
       let writes = subst (λ b. IsWriterIf b r.tree (r.writer_of (k.nodes p).br) (r.branch_at n v) n v (k.nodes p).br) active agrees.writes in
       writes.branch ∙ ap Some (sym (front_uuid pv.log (k.nodes p).br in_front))
 
-  module _ (id : ℕ) (f : Frame) (s : Setup) (before : List Frame) (sync : Bool) (syncs : sync ≡ is_sync s) (small : f.vb_or_status < 2 ^ 16) (free : stream_at id pv.streams ≡ None) (open_it : open_refusal pv id ask ≡ None) (ruled : rule pv.log pv.position.at ask ≡ Continue) where
+  module _ (id : ℕ) (f : Frame) (s : Setup) (before : List Frame) (sync : Bool) (syncs : sync ≡ is_sync s) (small : f.vb_or_status < 2 ^ 16) (free : stream_at id pv.streams ≡ None) (open_it : open_refusal pv id ask ≡ None) (ruled : rule pv.log pv.position.at ask ≡ Continue) (plain : ask.flags ≡ 0) where
     abbrev request : Request
     request = record { before = before; frame = f; ask = ask }
 
@@ -112,6 +112,7 @@ module _ (r : Chronicle) (k : Cluster) (sound : SoundCluster top k) (n v p : ℕ
       until = refl;
       over = refl;
       ended = refl;
+      gives = ap gives_of plain;
       fits = All-nil ChangeFits;
       next_in = omega arith;
       started = refl;

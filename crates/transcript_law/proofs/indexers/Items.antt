@@ -76,6 +76,7 @@ module _ (tree : List Branch) (on : Option ℕ) (held : List Change) (pv : Optio
     until = si.until;
     over = si.over;
     ended = si.ended;
+    gives = si.gives;
     fits = si.fits;
     next_in = let l = found_below t.items t.next x e in omega (arith, l);
     started = item_started g.last si.started;

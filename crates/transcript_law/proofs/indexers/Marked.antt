@@ -137,6 +137,7 @@ module _ (w : PlainWorld) (r : Chronicle) (cl : Cluster) (a : AgreesIn idle w r 
     until = si.until;
     over = si.over;
     ended = si.ended;
+    gives = si.gives;
     fits = fit;
     next_in = omega arith;
     started = above_start g.last si.started;

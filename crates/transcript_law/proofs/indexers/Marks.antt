@@ -5,7 +5,8 @@ use Rattle.client_session.specs.Serving.{PlainSession}
 unfoldable use Rattle.mcbp_dcp.specs.DcpFrames.{dcp_frame}
 unfoldable use Rattle.dcp_producer.specs.Frames.{next_frame}
 use Rattle.mcbp_dcp.specs.declared.message.DcpMsg.TheVariants as msg
-use Rattle.dcp_producer.specs.Frames.{Next, close_sent, marker_flags, marker_next, next_by, over, place_requested, place_said, placed_next, quiet, reaches_end, take_answered, taken_next, with_snapshot}
+use Rattle.dcp_producer.specs.declared.next_frame.Waits.{Waits}
+use Rattle.dcp_producer.specs.Frames.{Next, alive_next, none_next, close_sent, marker_flags, marker_next, next_by, over, place_requested, place_said, placed_next, quiet, reaches_end, take_answered, taken_next, with_snapshot}
 use Rattle.dcp_producer.specs.Pulling.{QuietOnes, frame_put, stream_went}
 use Rattle.dcp_producer.specs.declared.desk.Desk.{Desk}
 use Rattle.dcp_producer.specs.declared.next_frame.NextFrame.{NextFrame}
@@ -13,7 +14,7 @@ use Rattle.dcp_producer.specs.declared.next_frame.NextFrame.TheVariants as next
 use Rattle.flow_control.specs.Windows.{is_open as lets_through}
 use Rattle.node_core.specs.Clients.{PlainClient}
 use Rattle.std.proofs.lemmas.Bool.{leb-true}
-use Rattle.transcript_law.proofs.indexers.{Ends.{Comes, ended_turn, has, known, moved_step, opens, reached_turn, vb_agrees}, Items.{item_turn}, Framed.{IsQuietNow, IsWaitingNow, SoFar, client_of, mine, put_more, read, still_open, still_through, turned_so_far, went_agrees, world_of}, Marked.{marked_stream, marker_lawful}, Owning.{with_streams}, Stills.{quiet_stream, waiting_stream}, Replacing.{at_there_replaced, others_replaced, replaced_same}, Replied.{header_is, marker_short, marker_vb, put_is}}
+use Rattle.transcript_law.proofs.indexers.{Ends.{Comes, ended_turn, has, known, moved_step, opens, reached_turn, vb_agrees}, Items.{item_turn}, Framed.{wait_of, IsQuietNow, IsWaitingNow, SoFar, client_of, mine, put_more, read, still_open, still_through, turned_so_far, went_agrees, world_of}, Marked.{marked_stream, marker_lawful}, Owning.{with_streams}, Stills.{quiet_stream, waiting_stream}, Replacing.{at_there_replaced, others_replaced, replaced_same}, Replied.{header_is, marker_short, marker_vb, put_is}}
 use Rattle.transcript_law.proofs.invariant.{Agreement.{vb_of}, Carried.{sound_streams}, ClientsTold.{IsOpenFor, StreamIs}, OpenStreams.{Among}}
 use Rattle.transcript_law.proofs.links.{Marking.{moved_there, moved_vb, span_snapshot}, Sent.{not_found}}
 use Rattle.transcript_law.specs.{ClientFrames.{is_closed_by}, ClientStreams.{with_mark}, LawfulClients.{IsNextMarker, IsQuiet, LawfulClientMark, WaitsSaved}, Questions.{flow_now, served_frames}, StreamLaws.{FROM_MEMORY}, StreamsTold.{ClientKnown, ClientStream, StreamLine}}
@@ -69,10 +70,10 @@ module _ (w : PlainWorld) (r : Chronicle) (cl : Cluster) (n c : ℕ) (node : Pla
   Arrives x = Comes w r cl n c node session states s g q t i through x
 
   -- nothing was put
-  quiet_turn : (waits : Bool) (states' : States) → states' ≡ states → (waits ≡ false → IsQuietNow w r cl n c node session here t) → (waits ≡ true → IsWaitingNow w r cl n c node session here t) → Arrives (states', quiet waits t)
+  quiet_turn : (waits : Bool) (states' : States) → states' ≡ states → (waits ≡ false → IsQuietNow w r cl n c node session here t) → (waits ≡ true → IsWaitingNow w r cl n c node session here t) → Arrives (states', quiet (wait_of waits) t)
   quiet_turn waits states' same still waiting =
       let again = replaced_same s.end.streams t (mine w r cl n c node session states s g).kept.rise i in
-      subst (λ x. Arrives (x, quiet waits t)) (sym same)
+      subst (λ x. Arrives (x, quiet (wait_of waits) t)) (sym same)
       (let (so, lines) = turned_so_far w r cl n c node session states s g (stream_went t s) refl refl (ap (λ xs. with_streams client xs (stream_went t s).end) again) refl in record {
         so = so;
         read_is = ap (after_lines r) lines;
@@ -82,6 +83,10 @@ module _ (w : PlainWorld) (r : Chronicle) (cl : Cluster) (n c : ℕ) (node : Pla
         quiet = still;
         waiting = waiting;
       })
+
+  -- it is for no takeover
+  feeds : t.gives ≡ None
+  feeds = (known w r cl n c node session states s g q t i through).is.gives
 
   module _ (going : t.ended ≡ false) where
     abbrev x : IsOpenFor here.tree (here.branch_at n t.vb) (known w r cl n c node session states s g q t i through).g t.id (vb_of now n t.vb)
@@ -132,7 +137,7 @@ module _ (w : PlainWorld) (r : Chronicle) (cl : Cluster) (n c : ℕ) (node : Pla
         ∙ ap (λ o. after (placed_next s.end.desk.stream t (place_said (Some (place_reply x.vb.floor o)))) (with_vb_at states t.vb x.vb)) x.opened
 
     -- not all of them are in memory: the stream waits
-    waited_turn : is_in_memory x.vb.floor x.stream ≡ false → after (place_requested s.end.desk.stream t) states ≡ (with_vb_at states t.vb x.vb, quiet true t)
+    waited_turn : is_in_memory x.vb.floor x.stream ≡ false → after (place_requested s.end.desk.stream t) states ≡ (with_vb_at states t.vb x.vb, quiet Waits.Saved t)
     waited_turn far = placed_turn ∙ ap (λ b. after (placed_next s.end.desk.stream t (Some (if b then Memory else WaitSaved))) (with_vb_at states t.vb x.vb)) far
 
     -- all are: it was asked for the next snapshot
@@ -170,7 +175,7 @@ module _ (w : PlainWorld) (r : Chronicle) (cl : Cluster) (n c : ℕ) (node : Pla
     place_turn takes exactly whole unreached = in_memory (is_in_memory x.vb.floor x.stream) refl
       where
         by : is_in_memory x.vb.floor x.stream ≡ true → (o : Option Span) → end_span x.stream (all_spans x.vb.spans) x.vb.held ≡ o → Arrives (taken_turn (take_to o x.stream x.vb))
-        by near None ends = quiet_turn false (with_vb_at (with_vb_at states t.vb x.vb) t.vb x.vb) twice (λ e. still_now exactly whole unreached near ends) (λ e. cc)
+        by near None ends = subst (λ o. Arrives (with_vb_at (with_vb_at states t.vb x.vb) t.vb x.vb, none_next s.end.desk.stream t o)) (sym feeds) (quiet_turn false (with_vb_at (with_vb_at states t.vb x.vb) t.vb x.vb) twice (λ e. still_now exactly whole unreached near ends) (λ e. cc))
         by near (Some win) ends =
             let (stop, is, moved) = snapshot_is takes x.vb t.id x.stream win (vb_agrees w r cl n c node session states s g q t i through going).sound x.opened near ends in
             subst (λ vb. Arrives (with_vb_at (with_vb_at states t.vb x.vb) t.vb vb, marker_next s.end.desk.stream t (span_snapshot x.vb x.stream win))) (sym moved)
@@ -187,9 +192,9 @@ module _ (w : PlainWorld) (r : Chronicle) (cl : Cluster) (n c : ℕ) (node : Pla
 
   -- behind the items: the stream's end, or the next marker
   more_turn : TakesSnapshots → TakesExactly → length t.items ≤ t.next → (b : Bool) → t.ended ≡ b
-      → Arrives (after (if b then Done (over STATE_CHANGED t) else if reaches_end t.until t.marked then close_sent t else place_requested s.end.desk.stream t) states)
+      → Arrives (after (if b then Done (over STATE_CHANGED t) else alive_next s.end.desk.stream t t.gives) states)
   more_turn takes exactly whole true ended = ended_turn w r cl n c node session states s g q t i through ended whole
-  more_turn takes exactly whole false going = going_turn going takes exactly whole (reaches_end t.until t.marked) refl
+  more_turn takes exactly whole false going = subst (λ o. Arrives (after (alive_next s.end.desk.stream t o) states)) (sym feeds) (going_turn going takes exactly whole (reaches_end t.until t.marked) refl)
 
   -- the next frame of the stream
   pub next_turn : TakesSnapshots → TakesExactly → Arrives (after (next_frame s.end.desk.stream t) states)

@@ -147,6 +147,16 @@ module _ (takes : TakesSnapshots) (exactly : TakesExactly) (w : PlainWorld) (r :
         subst (λ lines. lets_through (flow_now ((after_lines r lines).clients_at n c)).window ≡ false) (sym lines_are)
         (ap lets_through window_is ∙ ends.full halted)
 
+    -- none waits for the answer to a state
+    abbrev Rests : States × ClientPulled → Type 0
+    Rests x = (k : ℕ) → x.1.answer ≡ Answer.Pulled k Why.WaitState → ⊥
+
+    rests : Rests told
+    rests k is = let state : why_of came.1.1 ≡ Why.WaitState = cc in ends.unstated state
+
+    pub client_rests : Rests (after (client_pulled frames client) node.vbs)
+    client_rests = subst Rests (sym told_is) rests
+
     pub client_shuts : Shuts (after (client_pulled frames client) node.vbs)
     client_shuts = subst Shuts (sym told_is) shuts
 
@@ -176,6 +186,13 @@ module _ (takes : TakesSnapshots) (exactly : TakesExactly) (w : PlainWorld) (r :
       by : (o : Option PlainClient) → node.clients c ≡ o → ShutsAsTold (pull_if c frames node o)
       by None e = λ k is. cc
       by (Some client) e = client_shuts client e
+
+  pub pull_at_rests : (k : ℕ) → (pull_at c frames node).1.answer ≡ Answer.Pulled k Why.WaitState → ⊥
+  pull_at_rests k = by (node.clients c) refl
+    where
+      by : (o : Option PlainClient) → node.clients c ≡ o → (pull_if c frames node o).1.answer ≡ Answer.Pulled k Why.WaitState → ⊥
+      by None e = λ is. cc
+      by (Some client) e = client_rests client e k
 
   abbrev pub WaitsAsTold : PlainNode × Told → Type 0
   WaitsAsTold x = (k : ℕ) → x.1.answer ≡ Answer.Pulled k Why.WaitSaved → (let read = after_lines r x.1.events in AllRest read n (read.clients_at n c) × OneWaits read n (read.clients_at n c) × (lets_through (flow_now (read.clients_at n c)).window ≡ true))
@@ -231,3 +248,8 @@ pub pull_shuts : TakesSnapshots → TakesExactly → (w : PlainWorld) (r : Chron
 pull_shuts takes exactly w r n c frames k ranged a =
     on_node_by (λ x. x.1.answer ≡ Answer.Pulled k Why.Full → (let read = after_lines r x.1.events in lets_through (flow_now (read.clients_at n c)).window ≡ false)) w n (pull_at c frames) (λ z. cc) (λ node known z. cc)
     (λ node known up. pull_at_shuts takes exactly w r n c frames node a known (at_node w n node ranged known) k)
+
+-- none waits for the answer to a state
+pub pull_rests : TakesSnapshots → TakesExactly → (w : PlainWorld) (r : Chronicle) (n c frames k : ℕ) → IsRanged w → Agrees w r → (on_node w n (pull_at c frames)).1.answer ≡ Answer.Pulled k Why.WaitState → ⊥
+pull_rests takes exactly w r n c frames k ranged a =
+    on_node_by (λ x. x.1.answer ≡ Answer.Pulled k Why.WaitState → ⊥) w n (pull_at c frames) (λ z. cc) (λ node known z. cc) (λ node known up. pull_at_rests takes exactly w r n c frames node a known (at_node w n node ranged known) k)

@@ -4,11 +4,11 @@ use Rattle.transcript_law.proofs.Words.{ℕ, Bool, true, false, List, refl, sym,
 use Rattle.client_session.specs.Serving.{PlainSession}
 unfoldable use Rattle.dcp_producer.specs.Frames.{next_frame}
 unfoldable use Rattle.dcp_producer.specs.Pulling.{one_turn}
-use Rattle.dcp_producer.specs.Pulling.{Pulling, QuietOnes, came, is_quiet, past_turn, pull_of, stream_asked, stream_in, stream_in_turn, turn_had, with_quiet}
+use Rattle.dcp_producer.specs.Pulling.{Pulling, QuietOnes, came, first_wait, is_quiet, past_turn, pull_of, stream_asked, stream_in, stream_in_turn, turn_had, with_quiet}
 use Rattle.dcp_producer.specs.Producers.{stream_at as kept_at}
 use Rattle.dcp_producer.proofs.Awake.{quiet_more}
 use Rattle.flow_control.specs.Windows.{is_open as lets_through}
-use Rattle.transcript_law.proofs.indexers.{Framed.{IsQuietNow, IsWaitingNow, PutSoFar, QuietSoFar, RestsNow, SoFar, TurnSoFar, WaitsNow, client_of, framed_there, mine, read, turned_so_far, world_of}, Marks.{next_turn}, Replied.{with_frame}, Streams.{same_number}}
+use Rattle.transcript_law.proofs.indexers.{Framed.{both_wait, wait_of, IsQuietNow, IsWaitingNow, PutSoFar, QuietSoFar, RestsNow, SoFar, TurnSoFar, WaitsNow, client_of, framed_there, mine, read, turned_so_far, world_of}, Marks.{next_turn}, Replied.{with_frame}, Streams.{same_number}}
 use Rattle.transcript_law.proofs.invariant.{ClientsTold.{ClientAgrees}, OpenStreams.{Among, at_among, id_among}}
 use Rattle.transcript_law.specs.{LawfulClients.{IsQuiet, WaitsSaved}, LinesTold.{OwnChange}, StreamsTold.{ClientStream, ClientsKnown}}
 use Rattle.vbucket.specs.Takes.{TakesExactly}
@@ -46,9 +46,11 @@ module _ (takes : TakesSnapshots) (exactly : TakesExactly) (w : PlainWorld) (r :
   -- a pull so far
   pub record Pulled (states : States) (p : Pulling) : Type 0 where
     pub so : SoFar w r cl n c node session states p.served
-    pub still : p.quiet.waits ≡ false → (u : PlainStream) → Among u p.served.end.streams → is_quiet u.id p.quiet ≡ true → IsQuietNow w r cl n c node session (after_lines r so.lines) u
+    pub saves : Bool
+    pub waits_is : p.quiet.waits ≡ wait_of saves
+    pub still : saves ≡ false → (u : PlainStream) → Among u p.served.end.streams → is_quiet u.id p.quiet ≡ true → IsQuietNow w r cl n c node session (after_lines r so.lines) u
     pub rest : (u : PlainStream) → Among u p.served.end.streams → is_quiet u.id p.quiet ≡ true → RestsNow w r cl n c node session (after_lines r so.lines) u
-    pub one : p.quiet.waits ≡ true → (x : WaitsNow w r cl n c node session (after_lines r so.lines) p.served.end.streams) × (is_quiet x.stream.id p.quiet ≡ true)
+    pub one : saves ≡ true → (x : WaitsNow w r cl n c node session (after_lines r so.lines) p.served.end.streams) × (is_quiet x.stream.id p.quiet ≡ true)
 
   -- a turn in which nothing was put
   pub record Went (p p' : Pulling) (states' : States) : Type 0 where
@@ -71,6 +73,8 @@ module _ (takes : TakesSnapshots) (exactly : TakesExactly) (w : PlainWorld) (r :
     past : Pulled states (pull_of (past_turn s) q)
     past = let (so, lines) = turned_so_far w r cl n c node session states s g.so (past_turn s) refl refl refl refl in record {
       so = so;
+      saves = g.saves;
+      waits_is = g.waits_is;
       still = λ none u i quiet. subst (λ ls. IsQuietNow w r cl n c node session (after_lines r ls) u) (sym lines) (g.still none u i quiet);
       rest = λ u i quiet. subst (λ ls. RestsNow w r cl n c node session (after_lines r ls) u) (sym lines) (g.rest u i quiet);
       one = λ waits. let x = g.one waits in (record { stream = x.0.stream; at = x.0.at; waits = subst (λ ls. IsWaitingNow w r cl n c node session (after_lines r ls) x.0.stream) (sym lines) x.0.waits }, x.1);
@@ -110,16 +114,18 @@ module _ (takes : TakesSnapshots) (exactly : TakesExactly) (w : PlainWorld) (r :
       put_pulled : p'.quiet ≡ q → Pulled states' p'
       put_pulled same = record {
         so = put.so;
+        saves = g.saves;
+        waits_is = ap (λ (x : QuietOnes). x.waits) same ∙ g.waits_is;
         still = λ none u j quiet.
             let was : is_quiet u.id q ≡ true = ap (is_quiet u.id) (sym same) ∙ quiet in
             let k : Among u s.end.streams = put.others u j (differ u was) in
-            quiet_then u (apart u k was) (g.still (ap (λ (x : QuietOnes). x.waits) (sym same) ∙ none) u k was);
+            quiet_then u (apart u k was) (g.still none u k was);
         rest = λ u j quiet.
             let was : is_quiet u.id q ≡ true = ap (is_quiet u.id) (sym same) ∙ quiet in
             let k : Among u s.end.streams = put.others u j (differ u was) in
             ⊎_elim (λ x. inl (quiet_then u (apart u k was) x)) (λ x. inr (waits_then u (apart u k was) x)) (g.rest u k was);
         one = λ waits.
-            let x = g.one (ap (λ (y : QuietOnes). y.waits) (sym same) ∙ waits) in
+            let x = g.one waits in
             let u : PlainStream = x.0.stream in
             let other : u.vb ≡ t.vb → ⊥ = apart u (at_among u.vb s.end.streams u x.0.at) x.1 in
             (record { stream = u; at = put.stay u.vb other ∙ x.0.at; waits = waits_then u other x.0.waits }, ap (is_quiet u.id) same ∙ x.1);
@@ -130,22 +136,24 @@ module _ (takes : TakesSnapshots) (exactly : TakesExactly) (w : PlainWorld) (r :
     quiet_went states' p' went p behind quiet in_turn = record {
       pulled = record {
         so = went.so;
+        saves = g.saves || went.waits;
+        waits_is = ap (λ (x : QuietOnes). x.waits) went.quiet_is ∙ ap (λ x. first_wait x (wait_of went.waits)) g.waits_is ∙ both_wait g.saves went.waits;
         still = λ none u j was.
-            let parts = or_false q.waits went.waits (sym (ap (λ (x : QuietOnes). x.waits) went.quiet_is) ∙ none) in
+            let parts = or_false g.saves went.waits none in
             let k : Among u s.end.streams = subst (λ (e : PlainProducer). Among u e.streams) went.same j in
-            subst (λ x. IsQuietNow w r cl n c node session x u) (sym went.read_is) (by u k parts (is_quiet u.id q) refl (sym (quiet_more q t.id went.waits u.id) ∙ ap (is_quiet u.id) (sym went.quiet_is) ∙ was));
+            subst (λ x. IsQuietNow w r cl n c node session x u) (sym went.read_is) (by u k parts (is_quiet u.id q) refl (sym (quiet_more q t.id (wait_of went.waits) u.id) ∙ ap (is_quiet u.id) (sym went.quiet_is) ∙ was));
         rest = λ u j was.
             let k : Among u s.end.streams = subst (λ (e : PlainProducer). Among u e.streams) went.same j in
-            subst (λ x. RestsNow w r cl n c node session x u) (sym went.read_is) (rests u k (is_quiet u.id q) refl (sym (quiet_more q t.id went.waits u.id) ∙ ap (is_quiet u.id) (sym went.quiet_is) ∙ was));
-        one = λ waits. ones (q.waits) refl (sym (ap (λ (x : QuietOnes). x.waits) went.quiet_is) ∙ waits);
+            subst (λ x. RestsNow w r cl n c node session x u) (sym went.read_is) (rests u k (is_quiet u.id q) refl (sym (quiet_more q t.id (wait_of went.waits) u.id) ∙ ap (is_quiet u.id) (sym went.quiet_is) ∙ was));
+        one = λ waits. ones g.saves refl waits;
       };
       end_is = went.same ∙ ap (λ (x : Served). x.end) behind;
-      asked = λ t' e. let both : Some t ≡ Some t' = sym in_turn ∙ e in let one : t ≡ t' = cc in ap (is_quiet t'.id) went.quiet_is ∙ ap (λ (x : PlainStream). is_quiet x.id (with_quiet t.id went.waits q)) (sym one) ∙ now_quiet;
-      more = λ id was. ap (is_quiet id) went.quiet_is ∙ quiet_more q t.id went.waits id ∙ still_more (is_quiet id q) (t.id == id || false) (ap (is_quiet id) quiet ∙ was);
+      asked = λ t' e. let both : Some t ≡ Some t' = sym in_turn ∙ e in let one : t ≡ t' = cc in ap (is_quiet t'.id) went.quiet_is ∙ ap (λ (x : PlainStream). is_quiet x.id (with_quiet t.id (wait_of went.waits) q)) (sym one) ∙ now_quiet;
+      more = λ id was. ap (is_quiet id) went.quiet_is ∙ quiet_more q t.id (wait_of went.waits) id ∙ still_more (is_quiet id q) (t.id == id || false) (ap (is_quiet id) quiet ∙ was);
     }
       where
-        now_quiet : is_quiet t.id (with_quiet t.id went.waits q) ≡ true
-        now_quiet = quiet_more q t.id went.waits t.id ∙ ap (λ b. b || (t.id == t.id || false)) awake ∙ ap (λ b. b || false) (eq-eqb t.id t.id refl)
+        now_quiet : is_quiet t.id (with_quiet t.id (wait_of went.waits) q) ≡ true
+        now_quiet = quiet_more q t.id (wait_of went.waits) t.id ∙ ap (λ b. b || (t.id == t.id || false)) awake ∙ ap (λ b. b || false) (eq-eqb t.id t.id refl)
 
         -- the stream that was asked rests
         it_rests : RestsNow w r cl n c node session before t
@@ -170,15 +178,15 @@ module _ (takes : TakesSnapshots) (exactly : TakesExactly) (w : PlainWorld) (r :
         }
 
         still_quiet : (id : ℕ) → is_quiet id q ≡ true → is_quiet id p'.quiet ≡ true
-        still_quiet id was = ap (is_quiet id) went.quiet_is ∙ quiet_more q t.id went.waits id ∙ still_more (is_quiet id q) (t.id == id || false) was
+        still_quiet id was = ap (is_quiet id) went.quiet_is ∙ quiet_more q t.id (wait_of went.waits) id ∙ still_more (is_quiet id q) (t.id == id || false) was
 
-        ones : (b : Bool) → q.waits ≡ b → (q.waits || went.waits) ≡ true → (x : WaitsNow w r cl n c node session (after_lines r went.so.lines) p'.served.end.streams) × (is_quiet x.stream.id p'.quiet ≡ true)
+        ones : (b : Bool) → g.saves ≡ b → (g.saves || went.waits) ≡ true → (x : WaitsNow w r cl n c node session (after_lines r went.so.lines) p'.served.end.streams) × (is_quiet x.stream.id p'.quiet ≡ true)
         ones true e waits = let x = g.one e in (behind_now x.0, still_quiet x.0.stream.id x.1)
         ones false e waits =
             let now : went.waits ≡ true = sym (ap (λ b. b || went.waits) e) ∙ waits in
             (behind_now (record { stream = t; at = own.one t i; waits = went.waiting now }), ap (is_quiet t.id) went.quiet_is ∙ now_quiet)
 
-        by : (u : PlainStream) → Among u s.end.streams → (q.waits ≡ false) × (went.waits ≡ false) → (b : Bool) → is_quiet u.id q ≡ b → (is_quiet u.id q || (t.id == u.id || false)) ≡ true
+        by : (u : PlainStream) → Among u s.end.streams → (g.saves ≡ false) × (went.waits ≡ false) → (b : Bool) → is_quiet u.id q ≡ b → (is_quiet u.id q || (t.id == u.id || false)) ≡ true
             → IsQuietNow w r cl n c node session (read w r cl n c node session states s g.so) u
         by u k parts true e was = g.still parts.0 u k e
         by u k parts false e was =

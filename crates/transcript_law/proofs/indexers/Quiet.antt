@@ -7,7 +7,7 @@ use Rattle.client_session.specs.Serving.{is_dcp}
 use Rattle.dcp_producer.specs.Producers.{Served, is_client, is_open, member_of, stream_at as kept_at}
 use Rattle.dcp_producer.specs.Sizes.{size_of}
 use Rattle.dcp_producer.specs.declared.desk.Named.{Named}
-use Rattle.dcp_producer.specs.Serving.{as_before, flag_of, named_by, controlled, controlled_as, count_requested, fed_stream, log_answered, log_sent, message_answered, open_refusal, opened_unless, read_answered, row_answered, sized, sized_as, weighed, with_handshake}
+use Rattle.dcp_producer.specs.Serving.{response_heard, as_before, flag_of, named_by, controlled, controlled_as, count_requested, fed_stream, log_answered, log_sent, message_answered, open_refusal, opened_unless, read_answered, row_answered, sized, sized_as, weighed, with_handshake}
 unfoldable use Rattle.dcp_producer.specs.Serving.{acknowledged, frame_answered, status_sent}
 use Rattle.flow_control.specs.Windows.{with_acked}
 use Rattle.mcbp_dcp.specs.Messages.{read_of}
@@ -33,7 +33,7 @@ unfolding frame_answered
 says f s asks dcp = by (f.datatype == 0) (read_of f) refl refl
   where
     reads : frame_answered f s ≡ read_answered f (read_of f) s
-    reads = ap (λ b. if b then Done s else if list_any (λ o. o == f.opcode) dcp_opcodes then read_answered f (read_of f) s else Done (status_sent f Status.UnknownCommand s)) asks
+    reads = ap (λ b. if b then Done (response_heard f s) else if list_any (λ o. o == f.opcode) dcp_opcodes then read_answered f (read_of f) s else Done (status_sent f Status.UnknownCommand s)) asks
         ∙ ap (λ b. if b then read_answered f (read_of f) s else Done (status_sent f Status.UnknownCommand s)) dcp
 
     so : (b : Bool) (o : Option (Result DcpMsg DcpFault)) → (f.datatype == 0) ≡ b → read_of f ≡ o → message_of f ≡ (if b then ok_of o else None)

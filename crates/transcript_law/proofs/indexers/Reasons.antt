@@ -1,7 +1,7 @@
 -- for what a client's request is refused, by its vBucket and by what its connection has
 use Rattle.std.specs.Prelude.{◌≡◌, ◌≤◌, ◌<◌, ◌==◌, ◌⊎◌, ◌&&◌, if◌then◌else◌, nat_lt, nat_le, not}
 use Rattle.transcript_law.proofs.Words.{ℕ, Bool, true, false, refl, sym, ap, ◌∙◌, subst, arith, nat_tests, and_parts, inl, inr, ⊎_elim, Option, Some, None, Status, StreamAsk, AskAnswer, Plain, Role, is_active, stream_at, Stream, id_refusal, first_reason, is_ranged, open_refusal, PlainProducer, Chronicle, Cluster, refuse, request_refusal, verdict_with}
-use Rattle.dcp_producer.specs.Producers.{is_open}
+use Rattle.dcp_producer.specs.Producers.{is_client, is_open}
 use Rattle.dcp_producer.specs.Serving.{MOST_STREAMS}
 use Rattle.transcript_law.proofs.{indexers.Setting.{open_as}, invariant.{Agreement.{VbAgrees}, ClientsTold.{setup_of}}}
 use Rattle.transcript_law.specs.{ClientStreams.{STREAM_NUMBERS}, LawfulClients.{InOrder, IsActive, IsFree, IsRefusal, RefusesAs, RefusesBy}, StreamsTold.{ClientStream}}
@@ -14,7 +14,7 @@ passes_on p ask opened zero =
     let low : nat_lt 1 ask.flags ≡ false = grind (arith, nat_tests, zero) in
     let none : (ask.flags == 1) ≡ false = ap (λ k. k == 1) zero in
     let same : request_refusal p ask ≡ (if nat_le MOST_STREAMS p.asked then Some Status.Etmpfail else None) =
-    (λ i. if not (opened i) then Some Status.Einval else if low i then Some Status.Einval else if none i then Some Status.NotSupported else if nat_le MOST_STREAMS p.asked then Some Status.Etmpfail else None) in
+    (λ i. if not (opened i) then Some Status.Einval else if low i then Some Status.Einval else if none i && is_client p.desk.stream then Some Status.NotSupported else if nat_le MOST_STREAMS p.asked then Some Status.Etmpfail else None) in
     by (nat_le MOST_STREAMS p.asked) refl same
   where
     by : (b : Bool) → nat_le MOST_STREAMS p.asked ≡ b → request_refusal p ask ≡ (if b then Some Status.Etmpfail else None)

@@ -1,7 +1,7 @@
 -- what a client's producer refuses by itself, and what its vBucket says to a request for a stream
 use Rattle.std.specs.Prelude.{◌≡◌, ◌<◌, ◌==◌, ◌&&◌, if◌then◌else◌, nat_le, nat_lt, not, is_some}
 use Rattle.transcript_law.proofs.Words.{ℕ, Bool, true, false, List, [], refl, sym, ap, ◌∙◌, subst, arith, nat_tests, eq-eqb, eqb-false, eqb-true, Option, Some, None, Status, LogEntry, StreamAsk, AskAnswer, Cluster, Branch, Plain, is_active, stream_at, Stream, id_refusal, first_reason, is_ranged, open_refusal, PlainProducer, PlainStream, PlainWorld, Chronicle, refuse, request_refusal, verdict_with, last_seq}
-use Rattle.dcp_producer.specs.Producers.{is_open, stream_at as kept_at}
+use Rattle.dcp_producer.specs.Producers.{is_client, is_open, stream_at as kept_at}
 use Rattle.dcp_producer.specs.Serving.{MOST_STREAMS, opens}
 use Rattle.std.proofs.lemmas.Bool.{lt-ltb}
 use Rattle.transcript_law.proofs.{disks.Absent.{nothing_here}, indexers.Setting.{open_as}}
@@ -20,15 +20,25 @@ refusal_by shaken unknown takeover most =
     else if most then Some Status.Etmpfail
     else None
 
-module _ (p : PlainProducer) (had : Option ClientStream) (ask : StreamAsk) where
+-- a takeover is refused on a client's connection
+both_so : (b : Bool) → (b && true) ≡ b
+both_so true = refl
+both_so false = refl
+
+refusal_is : (p : PlainProducer) (ask : StreamAsk) → is_client p.desk.stream ≡ true → request_refusal p ask ≡ refusal_by (is_open p.handshake) (nat_lt 1 ask.flags) (ask.flags == 1) (nat_le MOST_STREAMS p.asked)
+unfolding refusal_by
+refusal_is p ask client = ap (λ b. refusal_by (is_open p.handshake) (nat_lt 1 ask.flags) ((ask.flags == 1) && b) (nat_le MOST_STREAMS p.asked)) client
+    ∙ ap (λ t. refusal_by (is_open p.handshake) (nat_lt 1 ask.flags) t (nat_le MOST_STREAMS p.asked)) (both_so (ask.flags == 1))
+
+module _ (p : PlainProducer) (had : Option ClientStream) (ask : StreamAsk) (client : is_client p.desk.stream ≡ true) where
   unopened_so : is_open p.handshake ≡ false → request_refusal p ask ≡ Some Status.Einval
   unfolding refusal_by
-  unopened_so e = ap (λ b. refusal_by b (nat_lt 1 ask.flags) (ask.flags == 1) (nat_le MOST_STREAMS p.asked)) e
+  unopened_so e = refusal_is p ask client ∙ ap (λ b. refusal_by b (nat_lt 1 ask.flags) (ask.flags == 1) (nat_le MOST_STREAMS p.asked)) e
 
   unknown_so : 1 < ask.flags → request_refusal p ask ≡ Some Status.Einval
   unfolding refusal_by
   unknown_so above = let is : nat_lt 1 ask.flags ≡ true = grind (arith, nat_tests, above) in
-      ap (λ b. refusal_by (is_open p.handshake) b (ask.flags == 1) (nat_le MOST_STREAMS p.asked)) is ∙ by (is_open p.handshake)
+      refusal_is p ask client ∙ ap (λ b. refusal_by (is_open p.handshake) b (ask.flags == 1) (nat_le MOST_STREAMS p.asked)) is ∙ by (is_open p.handshake)
     where
       by : (b : Bool) → refusal_by b true (ask.flags == 1) (nat_le MOST_STREAMS p.asked) ≡ Some Status.Einval
       by true = refl
@@ -39,7 +49,7 @@ module _ (p : PlainProducer) (had : Option ClientStream) (ask : StreamAsk) where
   takeover_so e one =
       let low : nat_lt 1 ask.flags ≡ false = grind (arith, nat_tests, one) in
       let is : (ask.flags == 1) ≡ true = eq-eqb ask.flags 1 one in
-      (λ i. refusal_by (e i) (low i) (is i) (nat_le MOST_STREAMS p.asked))
+      refusal_is p ask client ∙ (λ i. refusal_by (e i) (low i) (is i) (nat_le MOST_STREAMS p.asked))
 
   refused_so : (verdict : AskAnswer) → IsRefusal verdict → (o : Option Status) → IsRefusal (verdict_with o verdict)
   refused_so verdict is None = is
@@ -88,11 +98,22 @@ module _ (p : PlainProducer) (had : Option ClientStream) (ask : StreamAsk) where
     -- a number is left
     pub is_left : p.asked < STREAM_NUMBERS
     unfolding refusal_by
-    is_left = by (nat_le MOST_STREAMS p.asked) refl not_refused
+    is_left = by (nat_le MOST_STREAMS p.asked) refl (sym (refusal_is p ask client) ∙ not_refused)
       where
         by : (b : Bool) → nat_le MOST_STREAMS p.asked ≡ b → refusal_by (is_open p.handshake) (nat_lt 1 ask.flags) (ask.flags == 1) b ≡ None → p.asked < STREAM_NUMBERS
         by false e none = grind (arith, nat_tests, e)
         by true e none = absurd (spent (is_open p.handshake) (nat_lt 1 ask.flags) (ask.flags == 1) none)
+
+    -- it is for no takeover
+    pub is_plain : ask.flags ≡ 0
+    unfolding refusal_by
+    is_plain = by (is_open p.handshake) (nat_lt 1 ask.flags) refl (ask.flags == 1) refl (nat_le MOST_STREAMS p.asked) (sym (refusal_is p ask client) ∙ not_refused)
+      where
+        by : (a u : Bool) → nat_lt 1 ask.flags ≡ u → (t : Bool) → (ask.flags == 1) ≡ t → (m : Bool) → refusal_by a u t m ≡ None → ask.flags ≡ 0
+        by true false low false other m none = let differs : ask.flags ≡ 1 → ⊥ = eqb-false ask.flags 1 other in grind (arith, nat_tests, low, differs)
+        by true false low true other m none = let z : Some Status.NotSupported ≡ None = none in cc
+        by true true low t other m none = let z : Some Status.Einval ≡ None = none in cc
+        by false u low t other m none = let z : Some Status.Einval ≡ None = none in cc
 
     -- the connection is open
     pub is_opened : is_open p.handshake ≡ true
@@ -133,11 +154,12 @@ few_left count = by (nat_le MOST_STREAMS count) refl
     by false e = grind (arith, nat_tests, e)
 
 -- a request takes one exactly where its vBucket is asked to open a stream
-pub takes_is : (p : PlainProducer) (v : ℕ) (had : Option ClientStream) (ask : StreamAsk) → has_none had ≡ not (is_some (kept_at v p.streams)) → takes_number (setup_of p.handshake) had ask p.asked ≡ opens p v ask
+pub takes_is : (p : PlainProducer) (v : ℕ) (had : Option ClientStream) (ask : StreamAsk) → is_client p.desk.stream ≡ true → has_none had ≡ not (is_some (kept_at v p.streams)) → takes_number (setup_of p.handshake) had ask p.asked ≡ opens p v ask
 unfolding refusal_by
-takes_is p v had ask none =
+takes_is p v had ask client none =
     (λ i. open_as p.handshake i && plain_flags ask.flags i && none i && few_left p.asked i)
     ∙ by (is_open p.handshake) (nat_lt 1 ask.flags) (ask.flags == 1) (nat_le MOST_STREAMS p.asked) (not (is_some (kept_at v p.streams)))
+    ∙ ap (λ o. not (is_some o) && not (is_some (kept_at v p.streams))) (sym (refusal_is p ask client))
   where
     by : (a u t m f : Bool) → (a && (not u && not t) && f && not m) ≡ (not (is_some (refusal_by a u t m)) && f)
     by false u t m f = refl
@@ -164,10 +186,10 @@ pub named_refusal : (why : Status) → IsRefused (refuse why) → (tree : List B
 named_refusal why is tree log high ask = is.0
 
 -- the producer's own has one too
-pub own_named : (p : PlainProducer) (ask : StreamAsk) (verdict : AskAnswer) → ((code : ℕ) → verdict ≡ AskAnswer.Refuse code → code ≡ 0 → ⊥) → IsRefusal verdict → (tree : List Branch) (log : List LogEntry) (high : ℕ)
+pub own_named : (p : PlainProducer) (ask : StreamAsk) (verdict : AskAnswer) → is_client p.desk.stream ≡ true → ((code : ℕ) → verdict ≡ AskAnswer.Refuse code → code ≡ 0 → ⊥) → IsRefusal verdict → (tree : List Branch) (log : List LogEntry) (high : ℕ)
     → LawfulVerdict tree log high ask (verdict_with (request_refusal p ask) verdict) × IsRefusal (verdict_with (request_refusal p ask) verdict)
 unfolding refusal_by
-own_named p ask verdict named is tree log high = by (is_open p.handshake) (nat_lt 1 ask.flags) (ask.flags == 1) (nat_le MOST_STREAMS p.asked)
+own_named p ask verdict client named is tree log high = subst Named (sym (refusal_is p ask client)) (by (is_open p.handshake) (nat_lt 1 ask.flags) (ask.flags == 1) (nat_le MOST_STREAMS p.asked))
   where
     Named : Option Status → Type 0
     Named o = LawfulVerdict tree log high ask (verdict_with o verdict) × IsRefusal (verdict_with o verdict)

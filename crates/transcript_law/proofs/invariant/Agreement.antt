@@ -100,10 +100,11 @@ abbrev pub IsLow : Option ℕ → Type 0
 IsLow None = Unit {0}
 IsLow (Some end) = end ≤ top
 
--- a stream was asked for with an end that no seqno reaches
+-- a stream was asked for with an end that no seqno reaches, and for no takeover
 pub record IsEndless (stream : PlainStream) : Type 0 where
   pub until : top < stream.until
   pub marked : IsLow stream.marked
+  pub gives : stream.gives ≡ None
 
 -- a stream of the vBucket vb as its producer keeps it: it is the one that the lines tell, and of the branch that its consumer's member is fed with
 pub record PutAgrees (o vb : ℕ) (log : List LogEntry) (begun : Option Begun) (stream : PlainStream) (u : ℕ) (fed : List LogEntry) : Type 0 where

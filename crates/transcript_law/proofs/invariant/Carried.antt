@@ -193,10 +193,11 @@ pub record SameStream (x y : PlainStream) : Type 0 where
   pub opaque : y.opaque ≡ x.opaque
   pub items : y.items ≡ x.items
   pub next : y.next ≡ x.next
+  pub gives : y.gives ≡ x.gives
   pub ended : x.ended ≡ true → y.ended ≡ true
 
 pub stream_same : {x : PlainStream} → SameStream x x
-stream_same = record { id = refl; until = refl; marked = refl; vb = refl; opaque = refl; items = refl; next = refl; ended = λ e. e }
+stream_same = record { id = refl; until = refl; marked = refl; vb = refl; opaque = refl; items = refl; next = refl; gives = refl; ended = λ e. e }
 
 -- a stream goes on, or has ended now
 pub streaming_again : {fv : Wants} {kn : Member} {pv pv' : Option Plain} {leader leader' : Member} {g : Option Granted} {served : PlainProducer} {asker : PlainConsumer} {up down : List Frame} (a : Streaming fv kn pv leader g served asker up down)
@@ -227,7 +228,7 @@ streaming_again {served = served} {asker} a streams stream same is opens =
         put = record {
           vb_is = same.vb ∙ x.vb_is;
           opaque_is = same.opaque ∙ x.opaque_is;
-          no_end = record { until = subst (λ n. top < n) (sym same.until) x.no_end.until; marked = subst IsLow (sym same.marked) x.no_end.marked };
+          no_end = record { until = subst (λ n. top < n) (sym same.until) x.no_end.until; marked = subst IsLow (sym same.marked) x.no_end.marked; gives = same.gives ∙ x.no_end.gives };
           fits = subst (All ChangeFits) (sym same.items) x.fits;
           next_in = rw same.next (rw same.items x.next_in);
           last = by a.granted_is.last x.last;

@@ -120,6 +120,7 @@ put_say conns n c [] opened a = tt
 put_say conns n c (Event.Marked stream start end flags ∷ lines) opened a = (tt, put_say conns n c lines opened a.1)
 put_say conns n c (Event.Item stream seq act key ∷ lines) opened a = (tt, put_say conns n c lines opened a.1)
 put_say conns n c (Event.Finished stream reason ∷ lines) opened a = (tt, put_say conns n c lines opened a.1)
+put_say conns n c (Event.Stated stream role ∷ lines) opened a = (tt, put_say conns n c lines opened a.1)
 put_say conns n c (Event.Reply m d bytes ∷ lines) opened a = ((λ i. conns (a.0.0 i) (a.0.1 i)) ∙ opened, put_say conns n c lines opened a.1)
 put_say conns n c (other ∷ lines) opened a = absurd a.0
 
@@ -128,6 +129,7 @@ put_stays conns n c [] a = refl
 put_stays conns n c (Event.Marked stream start end flags ∷ lines) a = put_stays conns n c lines a.1
 put_stays conns n c (Event.Item stream seq act key ∷ lines) a = put_stays conns n c lines a.1
 put_stays conns n c (Event.Finished stream reason ∷ lines) a = put_stays conns n c lines a.1
+put_stays conns n c (Event.Stated stream role ∷ lines) a = put_stays conns n c lines a.1
 put_stays conns n c (Event.Reply m d bytes ∷ lines) a = put_stays conns n c lines a.1
 put_stays conns n c (other ∷ lines) a = absurd a.0
 

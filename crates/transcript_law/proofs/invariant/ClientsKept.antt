@@ -71,6 +71,7 @@ stream_over s s' g stream goes x = record {
   until = x.until;
   over = x.over;
   ended = x.ended;
+  gives = x.gives;
   fits = x.fits;
   next_in = x.next_in;
   started = x.started;

@@ -142,6 +142,7 @@ pub record StreamIs (tree : List Branch) (on : Option ℕ) (held : List Change) 
   pub until : stream.until ≡ g.ask.end
   pub over : g.over ≡ false
   pub ended : stream.ended ≡ g.turned
+  pub gives : stream.gives ≡ None
   pub fits : All ChangeFits stream.items
   pub next_in : stream.next ≤ length stream.items
   pub started : StartedAt g.last g

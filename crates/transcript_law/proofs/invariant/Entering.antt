@@ -210,6 +210,8 @@ line_entered r (event.Item (name.Link l) seq act key) behind old lawful = going_
 line_entered r (event.Item (name.Client m c) seq act key) behind old lawful = record { disks = old.disks; logs = old.logs; streams = old.streams }
 line_entered r (event.Finished (name.Link l) reason) behind old lawful = going_entered r (name.Link l) finished (λ g. refl) old
 line_entered r (event.Finished (name.Client m c) reason) behind old lawful = record { disks = old.disks; logs = old.logs; streams = old.streams }
+line_entered r (event.Stated (name.Link l) role) behind old lawful = record { disks = old.disks; logs = old.logs; streams = old.streams }
+line_entered r (event.Stated (name.Client n c) role) behind old lawful = absurd lawful
 line_entered r (event.Reply n c bytes) behind old lawful = record { disks = old.disks; logs = old.logs; streams = old.streams }
 line_entered r (event.Closed n c) behind old lawful = record { disks = old.disks; logs = old.logs; streams = old.streams }
 line_entered r (event.Adopted n v log) behind old lawful = adopted_entered r n v log old lawful

@@ -88,4 +88,6 @@ line_known told (Event.Asked stream n v ask high log said) k = asked stream said
 line_known told (Event.Marked (name.Client m c) start end flags) k = record { role = k.role; log = k.log; snap = k.snap }
 line_known told (Event.Item (name.Client m c) seq act key) k = record { role = k.role; log = k.log; snap = k.snap }
 line_known told (Event.Finished (name.Client m c) reason) k = record { role = k.role; log = k.log; snap = k.snap }
+line_known told (Event.Stated (name.Link l) role) k = record { role = k.role; log = k.log; snap = k.snap }
+line_known told (Event.Stated (name.Client m c) role) k = k
 line_known told other k = record { role = k.role; log = k.log; snap = k.snap }

@@ -4,7 +4,10 @@ use Rattle.transcript_law.proofs.Words.{ℕ, suc, Bool, true, false, List, [], l
 use Rattle.dcp_producer.proofs.Kept.{ids_of, kept_less, kept_more, kept_same}
 use Rattle.dcp_producer.specs.Producers.{IsKept, Rising, replaced, stream_at, stream_of_id, with_opened, without_id, without_place}
 use Rattle.std.specs.List.{find, position_or_len, remove}
-use Rattle.std.specs.Prelude.{nat_lt, not}
+use Rattle.std.specs.Option.{option_map}
+use Rattle.std.specs.Prelude.{map, nat_lt, not}
+use Rattle.takeover.specs.GivingUp.{answered}
+use Rattle.dcp_producer.specs.Serving.{heard}
 use Rattle.std.proofs.lemmas.Bool.Decides.{nat_tests}
 use Rattle.transcript_law.specs.Feeding.{HasOpen, IsOpenAt}
 
@@ -104,6 +107,15 @@ without_has v k id (s ∷ more) other h = subst (HasOpen v k) (sym (without_cons
     by rest true e (inr j) = j
     by rest false e (inl o) = inl o
     by rest false e (inr j) = inr (rest j)
+
+-- ---- streams that heard that a state was taken
+
+heard_same : (o : ℕ) (s : PlainStream) → ((heard o s).id ≡ s.id) × ((heard o s).vb ≡ s.vb) × ((heard o s).ended ≡ s.ended)
+heard_same o s = elim (s.opaque == o) as (λ b. let x : PlainStream = if b then record s { gives = option_map answered s.gives } else s in (x.id ≡ s.id) × (x.vb ≡ s.vb) × (x.ended ≡ s.ended)) [ true ↦ (refl, refl, refl) | false ↦ (refl, refl, refl) ]
+
+pub heard_has : (v k o : ℕ) (streams : List PlainStream) → HasOpen v k streams → HasOpen v k (map (heard o) streams)
+heard_has v k o [] h = h
+heard_has v k o (s ∷ more) h = let same = heard_same o s in ⊎_elim (λ x. inl (same.1 ∙ x.0, same.0 ∙ x.1, same.2 ∙ x.2)) (λ j. inr (heard_has v k o more j)) h
 
 -- ---- one more stream
 

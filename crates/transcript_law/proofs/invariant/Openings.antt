@@ -1,15 +1,18 @@
 -- a producer's frames: each stream that a vBucket has more is the connection's own, which it keeps until that is over
-use Rattle.std.specs.Prelude.{◌≡◌, ◌∷◌, ◌++◌, ◌⊎◌, ◌==◌, if◌then◌else◌, cond}
+use Rattle.std.specs.Prelude.{◌≡◌, ◌∷◌, ◌++◌, ◌⊎◌, ◌==◌, if◌then◌else◌, cond, map}
 use Rattle.transcript_law.proofs.Words.{ℕ, zero, suc, codes, length, Bool, true, false, List, [], refl, ap, sym, ◌∙◌, subst, inl, inr, ⊎_elim, Option, Some, None, Result, Ok, Err, slice_get, list_any, is_active, eqb-true, eqb-false, Frame, RESPONSE, Status, Change, Plain, VbReply, Span, Stream, States, StreamAsk, Verdict, Continue, Roll}
 use Rattle.transcript_law.proofs.Words.{after, after_bind, Done, Prog, Turn, More, Stop, repeated, go_on, Halt, Handshake, DcpMsg, PlainProducer, PlainStream, Served, StreamName, LogEntry, AskAnswer, rule, open_refusal, open_outcome, judged_open, id_refusal, first_reason, is_ranged, new_stream, stream_at, with_vb_at, call_at, bind, Call, VbCall}
-use Rattle.transcript_law.proofs.invariant.OpenStreams.{AreKept, Among, at_among, id_among, kept_asked, kept_opened, kept_over, kept_went, only_open, opened_has, replaced_has, replaced_ids, without_has}
+use Rattle.transcript_law.proofs.invariant.OpenStreams.{AreKept, Among, heard_has, at_among, id_among, kept_asked, kept_opened, kept_over, kept_went, only_open, opened_has, replaced_has, replaced_ids, without_has}
 use Rattle.transcript_law.proofs.invariant.Unopened.{NoNew, OpensNone, closed_here, none_new, put_new, step_new}
 use Rattle.transcript_law.specs.Feeding.{Has, HasIn, HasOpen, IsOpenAt}
-use Rattle.dcp_producer.proofs.Framing.{GoesOn, Same, frame_same}
-use Rattle.dcp_producer.specs.Frames.{Next, close_sent, next_by, next_frame, over, place_requested, place_said, place_told, placed_next, reaches_end, STATE_CHANGED, take_answered, taken_next}
+use Rattle.dcp_producer.proofs.{Framing.{GoesOn, Same, frame_same}, Kept.{heard_ids}}
+use Rattle.takeover.specs.GivingUp.{done}
+use Rattle.takeover.specs.declared.give_up.{GiveStep.{GiveStep}, GiveUp.{GiveUp}}
+use Rattle.vb_types.specs.declared.role.Role.{Role}
+use Rattle.dcp_producer.specs.Frames.{Next, alive_next, close_sent, none_next, role_of, state_next, step_next, next_by, next_frame, over, place_requested, place_said, place_told, placed_next, reaches_end, STATE_CHANGED, take_answered, taken_next}
 use Rattle.dcp_producer.specs.Producers.{is_open as is_shaken, is_sync, member_of, replaced, stream_at as stream_of_vb, with_stream, without_stream}
 use Rattle.dcp_producer.specs.Pulling.{Pulling, QuietOnes, came, frames_put, is_quiet, none_quiet, one_frame, one_turn, past_turn, pull_of, pulled, stream_asked, stream_in, stream_in_turn, turn_had, turns_came}
-use Rattle.dcp_producer.specs.Serving.{acknowledged, ask_verdict, close_requested, closed_sent, controlled, controlled_as, count_answered, count_requested, counted_by, fed_stream, frame_answered, log_answered, log_given, log_requested, log_sent, message_answered, next_stream, open_refusal as opening_refusal, opened_unless, opening_requested, opens, read_answered, refusal_requested, new_stream as stream_of, row_answered, sized, sized_as, status_sent, stream_answered, stream_closed, stream_request, weighed, with_asked, with_granted}
+use Rattle.dcp_producer.specs.Serving.{heard, is_taken, response_heard, acknowledged, ask_verdict, close_requested, closed_sent, controlled, controlled_as, count_answered, count_requested, counted_by, fed_stream, frame_answered, log_answered, log_given, log_requested, log_sent, message_answered, next_stream, open_refusal as opening_refusal, opened_unless, opening_requested, opens, read_answered, refusal_requested, new_stream as stream_of, row_answered, sized, sized_as, status_sent, stream_answered, stream_closed, stream_request, weighed, with_asked, with_granted}
 use Rattle.dcp_producer.specs.declared.next_frame.NextFrame.{NextFrame}
 use Rattle.dcp_producer.specs.declared.next_frame.NextFrame.TheVariants as next
 use Rattle.transcript_law.proofs.lines.Pulling.{lets_through}
@@ -53,6 +56,15 @@ abbrev IsOver : NextFrame → Type 0
 IsOver (next.End reason) = Unit {0}
 IsOver other = ⊥
 
+-- none is over where its vBucket gives it nothing
+not_over : (name : StreamName) (stream : PlainStream) (o : Option GiveUp) → IsOver (none_next name stream o).0 → ⊥
+not_over name stream None is = is
+not_over name stream (Some g) is = by (role_of (done g).step) is
+  where
+    by : (told : Option Role) → IsOver (state_next name stream (done g) told).0 → ⊥
+    by None is = is
+    by (Some told) is = is
+
 -- a vBucket that knows nothing of a stream, or is absent, has none of its number
 module _ (states : States) (v i : ℕ) where
   unplaced_none : place_said (states_step states v (call.Place i)).1 ≡ None → (k : ℕ) → HasIn (states v) k → k ≡ i → ⊥
@@ -70,7 +82,7 @@ module _ (states : States) (v i : ℕ) where
   untaken_none name stream = by (states v)
     where
       given : (vb : Plain) (s : Stream) (w : Option Span) → IsOver (taken_next name stream (take_to w s vb).1.answer).0 → Some s ≡ None
-      given vb s None is = absurd is
+      given vb s None is = absurd (not_over name stream stream.gives is)
       given vb s (Some w) is = absurd is
 
       taken : (vb : Plain) (o : Option Stream) → IsOver (taken_next name stream (take_from o vb).1.answer).0 → o ≡ None
@@ -296,9 +308,14 @@ module _ (others : ℕ → ℕ → Type 0) where
         by (Err fault) = status_keeps Status.Einval
         by (Ok m) = message_keeps m
 
+    -- a response is heard by streams, which are open as they were
+    response_keeps : (b : Bool) → Keeps (Done (if b then record s { end = record s.end { streams = map (heard f.opaque) s.end.streams } } else s)) states
+    response_keeps true = (λ v k h. ⊎_elim (λ o. inl o) (λ own. inr (heard_has v k f.opaque s.end.streams own)) (held.0 v k h), kept_went s.end (map (heard f.opaque) s.end.streams) (heard_ids f.opaque s.end.streams) held.1)
+    response_keeps false = held
+
     pub frame_keeps : Keeps (frame_answered f s) states
     unfolding frame_answered
-    frame_keeps = either_keeps (f.magic == RESPONSE) (Done s) (if list_any (λ o. o == f.opcode) dcp_opcodes then read_answered f (read_of f) s else Done (status_sent f Status.UnknownCommand s)) held
+    frame_keeps = either_keeps (f.magic == RESPONSE) (Done (response_heard f s)) (if list_any (λ o. o == f.opcode) dcp_opcodes then read_answered f (read_of f) s else Done (status_sent f Status.UnknownCommand s)) (response_keeps (is_taken f))
         (either_keeps (list_any (λ o. o == f.opcode) dcp_opcodes) (read_answered f (read_of f) s) (Done (status_sent f Status.UnknownCommand s)) (read_keeps (read_of f)) (status_keeps Status.UnknownCommand))
 
   -- ---- the next frame of a stream
@@ -334,9 +351,23 @@ module _ (others : ℕ → ℕ → Type 0) where
     unfolding next_frame
     next_comes states = by (slice_get t.items t.next)
       where
-        more : (b : Bool) → t.ended ≡ b → Comes states (after (if b then Done (over STATE_CHANGED t) else if reaches_end t.until t.marked then close_sent t else place_requested name t) states)
+        steps : (g : GiveUp) (s : GiveStep) → Comes states (after (step_next name t g s) states)
+        steps g GiveStep.SendAll = reached_comes states false
+        steps g GiveStep.SendPending = (λ v k h. h, λ over. absurd over)
+        steps g GiveStep.AwaitPending = (λ v k h. h, λ over. absurd over)
+        steps g GiveStep.Yield = (λ v k h. h, λ over. absurd over)
+        steps g GiveStep.SendRest = reached_comes states false
+        steps g GiveStep.SendActive = (λ v k h. h, λ over. absurd over)
+        steps g GiveStep.AwaitActive = (λ v k h. h, λ over. absurd over)
+        steps g GiveStep.End = reached_comes states true
+
+        alive : (o : Option GiveUp) → Comes states (after (alive_next name t o) states)
+        alive None = reached_comes states (reaches_end t.until t.marked)
+        alive (Some g) = steps g g.step
+
+        more : (b : Bool) → t.ended ≡ b → Comes states (after (if b then Done (over STATE_CHANGED t) else alive_next name t t.gives) states)
         more true e = (λ v k h. h, λ over. inl e)
-        more false e = reached_comes states (reaches_end t.until t.marked)
+        more false e = alive t.gives
 
         by : (o : Option Change) → Comes states (after (next_by name t o) states)
         by (Some c) = (λ v k h. h, λ over. absurd over)

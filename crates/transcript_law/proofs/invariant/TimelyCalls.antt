@@ -107,7 +107,7 @@ peer_tame f peer = tame_bind (frame_answered f (begun peer.producer)) (λ s. Don
 
 puts_make : (kind : VbCall → Type 0) → Takes kind → (k : ℕ) (s : Served) → Makes kind (frames_put k s)
 puts_make kind takes k s =
-    let lines : Lines AnyLine = record { items = λ name c. tt; markers = λ name start end flags. tt; ends = λ name reason. tt } in
+    let lines : Lines AnyLine = record { items = λ name c. tt; markers = λ name start end flags. tt; ends = λ name reason. tt; states = λ name told. tt } in
     always_so AnyReply (λ v made. kind made) (Puts kind AnyLine takes lines (λ n t. Unit {0}) (λ n t end same c. tt) (λ n t f line is c. tt) k) (λ a. Unit {0}) (frames_put k s) (λ t c. tt)
     (pull_so kind AnyLine takes lines (λ n t. Unit {0}) (λ n t end same c. tt) (λ n t f line is c. tt) k s tt)
 

@@ -69,6 +69,8 @@ quiet_lawful r (Event.Item (StreamName.Client n c) seq act key) behind more q l 
 }
 quiet_lawful r (Event.Finished (StreamName.Link k) reason) behind more q l = l
 quiet_lawful r (Event.Finished (StreamName.Client n c) reason) behind more q l = record { put = put_more n c (r.clients_at n c) _ behind more l.put; opens = l.opens; whole = l.whole; cause = l.cause }
+quiet_lawful r (Event.Stated (StreamName.Link k) role) behind more q l = l
+quiet_lawful r (Event.Stated (StreamName.Client n c) role) behind more q l = l
 quiet_lawful r (Event.Got n v (StreamName.Link k) change) behind more q l = l
 quiet_lawful r (Event.Got n v (StreamName.Client m c) change) behind more q l = l
 quiet_lawful r (Event.Acknowledged (StreamName.Link k) n v seq saved) behind more q l = l

@@ -1,6 +1,6 @@
 -- lines of a link's producer tell of that link's stream alone, and of clients, whatever the replies of vBuckets
 use Rattle.std.specs.Prelude.{◌≡◌, ◌∷◌}
-use Rattle.transcript_law.proofs.Words.{ℕ, Bool, true, List, [], refl, sym, subst, take, map, Event, Change, Frame, LogEntry, StreamAsk, StreamName, PlainLink, PlainNode, after}
+use Rattle.transcript_law.proofs.Words.{ℕ, Bool, true, List, [], refl, sym, subst, take, map, Event, Change, Frame, LogEntry, Role, StreamAsk, StreamName, PlainLink, PlainNode, after}
 use Rattle.transcript_law.proofs.Words.{peer_of, moved_len, pump_at, up_at, with_states}
 use Rattle.dcp_producer.specs.declared.desk.Desk.{Desk}
 use Rattle.node_core.specs.Peers.{PeerResult, PlainPeer, peer_answered, peer_frames, peer_heard}
@@ -49,7 +49,7 @@ module _ (q : Event → Bool) (d : Desk) where
   -- ---- what is put
 
   module _ (marks : (start end flags : ℕ) → q (Event.Marked d.stream start end flags) ≡ true) (items : (c : Change) → q (Event.Item d.stream c.seq (act_sent c.act) c.key) ≡ true)
-      (ends : (reason : ℕ) → q (Event.Finished d.stream reason) ≡ true) where
+      (ends : (reason : ℕ) → q (Event.Finished d.stream reason) ≡ true) (states : (told : Role) → q (Event.Stated d.stream told) ≡ true) where
     -- a line of the desk's stream passes
     abbrev Passes : StreamName → Event → Type 0
     Passes name line = name ≡ d.stream → q line ≡ true
@@ -59,6 +59,7 @@ module _ (q : Event → Bool) (d : Desk) where
       items = λ name c e. subst (λ n. q (Event.Item n c.seq (act_sent c.act) c.key) ≡ true) (sym e) (items c);
       markers = λ name start end flags e. subst (λ n. q (Event.Marked n start end flags) ≡ true) (sym e) (marks start end flags);
       ends = λ name reason e. subst (λ n. q (Event.Finished n reason) ≡ true) (sym e) (ends reason);
+      states = λ name told e. subst (λ n. q (Event.Stated n told) ≡ true) (sym e) (states told);
     }
 
     pub pump_so : (frames : ℕ) (link : PlainLink) (node : PlainNode) → link.server.desk ≡ d → Are q (pump_at frames link node).1.1.events

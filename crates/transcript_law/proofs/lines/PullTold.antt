@@ -16,6 +16,7 @@ abbrev pub IsPut : ℕ → ℕ → Event → Type 0
 IsPut n c (Event.Marked stream start end flags) = stream ≡ StreamName.Client n c
 IsPut n c (Event.Item stream seq act key) = stream ≡ StreamName.Client n c
 IsPut n c (Event.Finished stream reason) = stream ≡ StreamName.Client n c
+IsPut n c (Event.Stated stream role) = stream ≡ StreamName.Client n c
 IsPut n c (Event.Reply m d bytes) = (m ≡ n) × (d ≡ c)
 IsPut n c other = ⊥
 
@@ -50,7 +51,7 @@ abbrev IsOwn : StreamName → Event → Type 0
 IsOwn name line = (is_frame line ≡ true) × ((n c : ℕ) → name ≡ StreamName.Client n c → IsPut n c line)
 
 frames : Lines IsOwn
-frames = record { items = λ name c. (refl, λ n d e. e); markers = λ name start end flags. (refl, λ n d e. e); ends = λ name reason. (refl, λ n d e. e) }
+frames = record { items = λ name c. (refl, λ n d e. e); markers = λ name start end flags. (refl, λ n d e. e); ends = λ name reason. (refl, λ n d e. e); states = λ name told. (refl, λ n d e. e) }
 
 -- a pull of the connection of the client c at the node n
 module _ (n c : ℕ) where
@@ -89,6 +90,7 @@ put_calm n c [] a = refl
 put_calm n c (Event.Marked stream start end flags ∷ lines) a = put_calm n c lines a.1
 put_calm n c (Event.Item stream seq act key ∷ lines) a = put_calm n c lines a.1
 put_calm n c (Event.Finished stream reason ∷ lines) a = put_calm n c lines a.1
+put_calm n c (Event.Stated stream role ∷ lines) a = put_calm n c lines a.1
 put_calm n c (Event.Reply m d bytes ∷ lines) a = put_calm n c lines a.1
 put_calm n c (other ∷ lines) a = absurd a.0
 

@@ -86,6 +86,8 @@ line_last r (event.Item (name.Client n c) seq act key) = refl
 line_last r (event.Item (name.Link l) seq act key) = refl
 line_last r (event.Finished (name.Client n c) reason) = refl
 line_last r (event.Finished (name.Link l) reason) = refl
+line_last r (event.Stated (name.Client n c) role) = refl
+line_last r (event.Stated (name.Link l) role) = refl
 line_last r other = refl
 
 pub lines_last : (r : Chronicle) (lines : List Event) → (after_lines r lines).last ≡ r.last

@@ -55,7 +55,7 @@ module _ (f : Frame) (s : Answered) (c : Calm s) where
 
   outcomes : Outcomes Gives Calm f s
   outcomes = record {
-    dropped = λ is. c;
+    dropped = λ is streams. c;
     taken = λ bytes read opened. c;
     refused = λ loud st end same. refused_calm st end;
     asked = λ ask id sync reply own end read may same. asked_calm ask end _ _ _;

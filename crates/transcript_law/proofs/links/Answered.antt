@@ -14,7 +14,7 @@ use Rattle.transcript_law.proofs.invariant.Carrying.{StreamsChanged}
 use Rattle.transcript_law.proofs.{links.Frames.{readable}, links.Spoken.{answer_spoken, spoken_push}}
 use Rattle.transcript_law.proofs.links.Talks.{served_link, next_up, more_down}
 use Rattle.transcript_law.proofs.invariant.Carried.{sound_streams}
-use Rattle.dcp_producer.specs.{Producers.{stream_at as stream_of_vb}, Serving.{log_of_reply, next_stream, opening_requested, opens, refusal_requested, with_asked, with_granted}}
+use Rattle.dcp_producer.specs.{Producers.{is_client, stream_at as stream_of_vb}, Serving.{gives_of, log_of_reply, next_stream, opening_requested, opens, refusal_requested, with_asked, with_granted}}
 use Rattle.transcript_law.proofs.links.Firsts.{first_answers, first_count, request_frames, set_after}
 use Rattle.transcript_law.proofs.links.Requests.{all_set, answers_count, request_answered, request_last}
 
@@ -33,7 +33,7 @@ refused_told s o vb ask log high said = with_frame (record s { end = with_asked 
 
 -- the stream of the number id that begins; its consumer has all up to the start that it asked for
 abbrev pub begun_stream : ℕ → ℕ → ℕ → StreamAsk → PlainStream
-begun_stream id o vb ask = record { id = id; vb = vb; opaque = o; until = ask.end; items = []; next = 0; marked = None; reached = ask.start; ended = false }
+begun_stream id o vb ask = record { id = id; vb = vb; opaque = o; until = ask.end; items = []; next = 0; marked = None; reached = ask.start; ended = false; gives = gives_of ask.flags }
 
 -- the producer then
 abbrev pub granted_end : PlainProducer → ℕ → ℕ → StreamAsk → PlainProducer
@@ -64,7 +64,7 @@ module _ (o vb node : ℕ) (ask : StreamAsk) (s : Served) (range : AskInRange as
   refusal_is : request_refusal s.end ask ≡ None
   refusal_is =
       ap (λ h. request_refusal (record s.end { handshake = h }) ask) shaken
-      ∙ ap (λ n. if nat_lt 1 n then Some Status.Einval else if n == 1 then Some Status.NotSupported else if nat_le (2 ^ 32 - 1) s.end.asked then Some Status.Etmpfail else None) plainly
+      ∙ ap (λ n. if nat_lt 1 n then Some Status.Einval else if n == 1 && is_client s.end.desk.stream then Some Status.NotSupported else if nat_le (2 ^ 32 - 1) s.end.asked then Some Status.Etmpfail else None) plainly
       ∙ (let left : nat_le (2 ^ 32 - 1) s.end.asked ≡ false = grind (arith, nat_tests, few) in ap (λ b. if b then Some Status.Etmpfail else None) left)
 
   opens_one : opens s.end vb ask ≡ true
@@ -234,7 +234,7 @@ module _ (fv : Plain) (ask : StreamAsk) (link : PlainLink) (down : List ℕ) (f 
       put = record {
         vb_is = refl;
         opaque_is = refl;
-        no_end = record { until = subst (λ (a : StreamAsk). top < a.end) (sym t.asks) (omega arith); marked = tt };
+        no_end = record { until = subst (λ (a : StreamAsk). top < a.end) (sym t.asks) (omega arith); marked = tt; gives = ap (λ (a : StreamAsk). gives_of a.flags) t.asks };
         fits = All-nil _;
         next_in = omega arith;
         last = refl;

@@ -155,7 +155,7 @@ marked_stream_begun : {o vb : ℕ} {g : Granted} {stream : PlainStream} {pv : Op
 marked_stream_begun {g = g} {stream} {feed = feed} {kn} {in_one} tree items start end x s low starts whole fits covers =
     let (y, found, ask, sync, place, taken) = x.opened in
     record {
-      put = record { vb_is = s.vb_is; opaque_is = s.opaque_is; no_end = record { until = s.no_end.until; marked = low }; fits = fits; next_in = omega arith; last = (covers, refl); log_lines = s.log_lines; front_is = s.front_is };
+      put = record { vb_is = s.vb_is; opaque_is = s.opaque_is; no_end = record { until = s.no_end.until; marked = low; gives = s.no_end.gives }; fits = fits; next_in = omega arith; last = (covers, refl); log_lines = s.log_lines; front_is = s.front_is };
       opens = λ q. record { producer = moved_vb x.producer stream.id end; producer_is = refl; active = x.active; leads = x.leads; opened = (moved_stream y end, moved_here stream.id end x.producer.streams y found, ask, sync, refl, refl) };
       over_ended = s.over_ended;
       coming = snapshot_comes g.coming stream (taken_stream stream items end) feed.flight kn.coming end whole refl s.coming;

@@ -39,11 +39,12 @@ pub put_says : (k n : ℕ) (s : Served) (halted : Halt) → Counted n s → PutF
 put_says k n s Halt.All c e = record { told = c.0 ∙ sym c.1; most = let same = c.0 in omega (arith, same, e); all = λ q. c.0 ∙ e; only = λ q. refl }
 put_says k n s Halt.Idle c few = record { told = c.0 ∙ sym c.1; most = let same = c.0 in omega (arith, same, few); all = λ q. cc; only = λ q. let same = c.0 in absurd (omega (arith, same, few, q)) }
 put_says k n s Halt.Full c few = record { told = c.0 ∙ sym c.1; most = let same = c.0 in omega (arith, same, few); all = λ q. cc; only = λ q. let same = c.0 in absurd (omega (arith, same, few, q)) }
+put_says k n s Halt.WaitState c few = record { told = c.0 ∙ sym c.1; most = let same = c.0 in omega (arith, same, few); all = λ q. cc; only = λ q. let same = c.0 in absurd (omega (arith, same, few, q)) }
 put_says k n s Halt.WaitSaved c few = record { told = c.0 ∙ sym c.1; most = let same = c.0 in omega (arith, same, few); all = λ q. cc; only = λ q. let same = c.0 in absurd (omega (arith, same, few, q)) }
 
 pub pump_says : (dial : Option Dial) (frames : ℕ) (link : PlainLink) (node : PlainNode) → CarriesOut (λ told. IsPumped dial frames told.events told.answer) (pump_at frames link node).1.1
 pump_says dial frames link node =
-    let lines : Lines IsFrame = record { items = λ name c. refl; markers = λ name start end flags. refl; ends = λ name reason. refl } in
+    let lines : Lines IsFrame = record { items = λ name c. refl; markers = λ name start end flags. refl; ends = λ name reason. refl; states = λ name told. refl } in
     let first : Served = begun link.server in let x = after (frames_put frames first) node.vbs in
     let put = after_always AnyCall (Puts AnyKind IsFrame takes_any lines Counted (λ n s end same c. c) one_more frames) (frames_put frames first) node.vbs
     (pull_so AnyKind IsFrame takes_any lines Counted (λ n s end same c. c) one_more frames first (refl, refl)) in

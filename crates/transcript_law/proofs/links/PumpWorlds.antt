@@ -29,7 +29,7 @@ pub record SoFar (w : PlainWorld) (r : Chronicle) (l : ℕ) (link : PlainLink) (
 -- the same after one frame, behind which no stream is quiet, or where none was put; where there is no more to put, all was put that the lines so far let the stream have
 abbrev pub TurnSoFar : PlainWorld → Chronicle → ℕ → PlainLink → PlainNode → States → Turn Pulling (Served × Halt) → Type 0
 TurnSoFar w r l link node states (More p) = SoFar w r l link node states p.served × (p.quiet ≡ none_quiet)
-TurnSoFar w r l link node states (Stop stopped) = SoFar w r l link node states stopped.0 × (why_of stopped.1 ≡ Why.Idle → AllPut (after_lines r stopped.0.events) l)
+TurnSoFar w r l link node states (Stop stopped) = SoFar w r l link node states stopped.0 × ((why_of stopped.1 ≡ Why.Idle → AllPut (after_lines r stopped.0.events) l) × (why_of stopped.1 ≡ Why.WaitState → ⊥))
 
 -- of the states and what a program came to
 abbrev pub TurnsSoFar : PlainWorld → Chronicle → ℕ → PlainLink → PlainNode → States × Turn Pulling (Served × Halt) → Type 0

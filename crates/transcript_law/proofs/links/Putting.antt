@@ -83,7 +83,7 @@ item_streaming {fv} {kn} {pv} {leader} {asker = asker} {put = put} t c f opens e
         put = record {
           vb_is = t.streams.vb_is;
           opaque_is = t.streams.opaque_is;
-          no_end = record { until = t.streams.no_end.until; marked = t.streams.no_end.marked };
+          no_end = record { until = t.streams.no_end.until; marked = t.streams.no_end.marked; gives = t.streams.no_end.gives };
           fits = t.streams.fits;
           next_in = let l = found_below t.stream.items t.stream.next c e in omega arith;
           last = begun_more g.last t.stream c t.streams.last e;

@@ -13,7 +13,7 @@ use Rattle.transcript_law.proofs.{links.Sent.{not_found, end_readable, marker_re
 use Rattle.transcript_law.proofs.{links.Marking.{covers_more, moved_vb, sent_member, taken_stream, start_is, reaches, marker_lawful, marker_streaming, SnapshotTaken, taken_is, span_snapshot}, links.PumpWorlds.{pumped_shelves, served_link, pumped, SoFar}}
 use Rattle.transcript_law.proofs.{links.Spoken.{message_spoken, spoken_push}, links.PumpWorlds.{TurnsSoFar, told_stream, so_far_more, pumped_here, pumped_powers, pumped_where, once_same, twice_here, twice_there, twice_same}, links.Talks.{more_down}, links.Windows.{so_far_turned, streaming_served}, lines.Pulling.{lets_through}, invariant.Seats.{seat_one}}
 use Rattle.transcript_law.proofs.{links.Followed.{own_is}, invariant.Forked.{held_covers}, invariant.Carrying.{Changed, Became, FedMember, FeedChanged, NoNewStream}, invariant.Carried.{sound_streams, no_writer, talk_same}}
-use Rattle.{cluster_model.specs.Clusters.{MaySend, sent}, dcp_producer.specs.Frames.{Next, act_sent, close_sent, item_next, marker_flags, marker_next, next_by, next_frame, over, place_requested, place_said, placed_next, quiet, reaches_end, take_answered, taken_next}}
+use Rattle.{cluster_model.specs.Clusters.{MaySend, sent}, dcp_producer.specs.declared.next_frame.Waits.{Waits}, dcp_producer.specs.Frames.{Next, act_sent, alive_next, none_next, close_sent, item_next, marker_flags, marker_next, next_by, next_frame, over, place_requested, place_said, placed_next, quiet, reaches_end, take_answered, taken_next}}
 use Rattle.dcp_producer.{proofs.OneStream.{no_frame_of, one_came, one_frame_of, shut_frame_of}, specs.Pulling.{Pulling, frame_put, none_quiet, one_frame, pull_of}}
 use Rattle.{dcp_producer.specs.declared.desk.Desk.{Desk}, mcbp_dcp.specs.declared.message.DcpMsg.TheVariants.{SnapshotMarker, StreamEnd}, std.proofs.lemmas.Bool.{cases_Bool, false_from_ne_true}}
 use Rattle.{transcript_law.specs.Chronicles.{with_changed}, transcript_law.specs.Lawfulness.{line_act}, vb_calls.specs.Streams.{is_in_memory, place_reply}, vb_types.specs.declared.stream.Place.TheVariants.{Memory, WaitSaved}, vb_calls.specs.declared.calls.VbCall.TheVariants.{Place, Take}}
@@ -374,13 +374,14 @@ module _ (w : PlainWorld) (r : Chronicle) (l : ℕ) (link : PlainLink) (node : P
       placed_turn : (o : Stream) → stream_at t.stream.id p.streams ≡ Some o → after (next_by name t.stream None) states ≡ after (placed_next name t.stream (place_said (Some (place_reply p.floor (Some o))))) (with_vb_at states t.stream.vb p)
       placed_turn o opened =
           let v : ℕ = t.stream.vb in let id : ℕ = t.stream.id in
-          ap (λ b. after (if b then Done (over STATE_CHANGED t.stream) else if reaches_end t.stream.until t.stream.marked then close_sent t.stream else place_requested name t.stream) states) going
+          ap (λ b. after (if b then Done (over STATE_CHANGED t.stream) else alive_next name t.stream t.stream.gives) states) going
+          ∙ ap (λ o. after (alive_next name t.stream o) states) t.streams.no_end.gives
           ∙ ap (λ b. after (if b then close_sent t.stream else place_requested name t.stream) states) endless
           ∙ ap (λ x. after (placed_next name t.stream (place_said (call_at states v (Place id) x).1)) (call_at states v (Place id) x).0) has
           ∙ ap (λ x. after (placed_next name t.stream (place_said (Some (place_reply p.floor x)))) (with_vb_at states v p)) opened
 
       -- not all of them are in memory: the stream waits
-      waited_turn : (o : Stream) → stream_at t.stream.id p.streams ≡ Some o → is_in_memory p.floor o ≡ false → after (next_by name t.stream None) states ≡ (with_vb_at states t.stream.vb p, quiet true t.stream)
+      waited_turn : (o : Stream) → stream_at t.stream.id p.streams ≡ Some o → is_in_memory p.floor o ≡ false → after (next_by name t.stream None) states ≡ (with_vb_at states t.stream.vb p, quiet Waits.Saved t.stream)
       waited_turn o opened far = placed_turn o opened
           ∙ ap (λ b. after (placed_next name t.stream (Some (if b then Memory else WaitSaved))) (with_vb_at states t.stream.vb p)) far
 
@@ -419,7 +420,8 @@ module _ (w : PlainWorld) (r : Chronicle) (l : ℕ) (link : PlainLink) (node : P
         where
           by : (o : Stream) → stream_at t.stream.id p.streams ≡ Some o → o.ask ≡ t.granted_is.ask → o.sync ≡ true → o.place ≡ t.granted_is.place → o.taken ≡ is_some t.granted_is.last
               → is_in_memory p.floor o ≡ true → (x : Option Span) → end_span o (all_spans p.spans) p.held ≡ x → Comes (taken_turn (take_to x o p))
-          by o opened asked sync placed before near None ends = (quiet_so_far (with_vb_at (with_vb_at states t.stream.vb p) t.stream.vb p) same_so_far, λ e. idle_now o opened asked sync placed before near ends whole)
+          by o opened asked sync placed before near None ends = subst (λ x. Comes (with_vb_at (with_vb_at states t.stream.vb p) t.stream.vb p, none_next name t.stream x)) (sym t.streams.no_end.gives)
+              (quiet_so_far (with_vb_at (with_vb_at states t.stream.vb p) t.stream.vb p) same_so_far, (λ e. idle_now o opened asked sync placed before near ends whole, λ e. cc))
           by o opened asked sync placed before near (Some win) ends =
               let snapshot : Snapshot = span_snapshot p o win in
               let taken : SnapshotTaken p t.stream.id o snapshot (take_to (Some win) o p).0 = taken_is takes p t.stream.id o win producer_agrees.sound opened sync near ends in
@@ -429,13 +431,13 @@ module _ (w : PlainWorld) (r : Chronicle) (l : ℕ) (link : PlainLink) (node : P
 
           in_memory : (b : Bool) (o : Stream) → stream_at t.stream.id p.streams ≡ Some o → o.ask ≡ t.granted_is.ask → o.sync ≡ true → o.place ≡ t.granted_is.place → o.taken ≡ is_some t.granted_is.last
               → is_in_memory p.floor o ≡ b → Comes (after (next_by name t.stream None) states)
-          in_memory false o opened asked sync placed before far = subst Comes (sym (waited_turn o opened far)) (quiet_so_far (with_vb_at states t.stream.vb p) waiting_so_far, λ e. cc)
+          in_memory false o opened asked sync placed before far = subst Comes (sym (waited_turn o opened far)) (quiet_so_far (with_vb_at states t.stream.vb p) waiting_so_far, (λ e. cc, λ e. cc))
           in_memory true o opened asked sync placed before near = subst Comes (sym (asked_turn o opened near)) (by o opened asked sync placed before near (end_span o (all_spans p.spans) p.held) refl)
 
     -- behind the items: the stream's end, or the next marker
     more_turn : TakesSnapshots → length t.stream.items ≤ t.stream.next → (b : Bool) → t.stream.ended ≡ b → Comes (after (next_by name t.stream None) states)
     more_turn takes whole true ended =
-        subst (λ b. Comes (after (if b then Done (over STATE_CHANGED t.stream) else if reaches_end t.stream.until t.stream.marked then close_sent t.stream else place_requested name t.stream) states)) (sym ended) (end_turn ended whole)
+        subst (λ b. Comes (after (if b then Done (over STATE_CHANGED t.stream) else alive_next name t.stream t.stream.gives) states)) (sym ended) (end_turn ended whole)
     more_turn takes whole false going = marker_turn going takes whole
 
     -- the next frame of the stream
@@ -470,7 +472,7 @@ module _ (w : PlainWorld) (r : Chronicle) (l : ℕ) (link : PlainLink) (node : P
 
   -- where the connection has no stream, nothing is put
   none_turn : AllPut read l → s.end.streams ≡ [] → lets_through s.end ≡ true → Goal (after (one_frame (pull_of s none_quiet)) states)
-  none_turn put none free = subst (λ prog. Goal (after prog states)) (sym (no_frame_of s none free)) (g, λ e. put)
+  none_turn put none free = subst (λ prog. Goal (after prog states)) (sym (no_frame_of s none free)) (g, (λ e. put, λ e. cc))
 
   talk_turn : (c : Cluster) → AgreesIn idle now read c → (la : LinkAgrees now read c here [] []) → TakesSnapshots → lets_through s.end ≡ true
       → EndsStand (wants_of la.follower) (c.nodes (consumer_seat here)) (vb_of now (producer_node here) vb) (c.nodes (producer_seat here)) (read.stream_of (Link (link_number here)) vb) (read.point_of (link_number here)) here.server here.consumer
@@ -491,4 +493,4 @@ module _ (w : PlainWorld) (r : Chronicle) (l : ℕ) (link : PlainLink) (node : P
     where
       by : (b : Bool) → lets_through s.end ≡ b → Goal (after (one_frame (pull_of s none_quiet)) states)
       by true free = open_turn takes free
-      by false shut = subst (λ prog. Goal (after prog states)) (sym (shut_frame_of s none_quiet shut)) (g, λ e. cc)
+      by false shut = subst (λ prog. Goal (after prog states)) (sym (shut_frame_of s none_quiet shut)) (g, (λ e. cc, λ e. cc))

@@ -378,7 +378,7 @@ module _ (w0 : PlainWorld) (r0 : Chronicle) (n : ℕ) (link0 : PlainLink) (found
           line_lawful : (behind : List _) → LawfulLine r (told_line s v ask pv.log pv.position.at AskAnswer.Go) behind
           line_lawful behind =
               subst (λ nm. LawfulLine r (Event.Asked nm mp v ask pv.position.at pv.log AskAnswer.Go) behind) (sym la.named)
-              (own_lawful r c now.agrees.sound now.agrees.hists mp v p pv producer ask l dialed_there AskAnswer.Go (go_lawful r c now.agrees.sound now.agrees.hists mp v p pv producer ask active in_order ruled)
+              (own_lawful r c now.agrees.sound now.agrees.hists mp v p pv producer ask l dialed_there (ap (λ (a : StreamAsk). a.flags) t.asks) AskAnswer.Go (go_lawful r c now.agrees.sound now.agrees.hists mp v p pv producer ask active in_order ruled)
               (active_vb_lines r c now.agrees.sound now.agrees.hists mp v p pv producer ask active))
 
           told : after_lines r0 came.1.events ≡ r'
@@ -424,7 +424,7 @@ module _ (w0 : PlainWorld) (r0 : Chronicle) (n : ℕ) (link0 : PlainLink) (found
           let nothing = nothing_here (world_at x) r c mp v now.agrees (known_there None none) (not_down (power_of (world_at x) mp) (now.agrees.ends link (found_is_link l (world_at x).links link (found_at x)).0).producer) in
           answered_as (x.0.vbs, refused_told s o v ask [] 0 (AskAnswer.Refuse 7)) (absent_asked o v nn ask s in_range asked_open no_flags t.no_stream numbers_left x.0.vbs none)
           (refuse_last last x.0.vbs (λ q. refl) [] 0 (AskAnswer.Refuse 7) (λ e. omega arith, λ e. omega arith, omega arith)
-          (absent_lawful r l mp v ask dialed_there nothing.log nothing.held))
+          (absent_lawful r l mp v ask dialed_there no_flags nothing.log nothing.held))
 
       module _ (pv : Plain) (known : x.0.vbs v ≡ Some pv) where
         same_states : (st : States) → StatesAre x.0.vbs v pv st → (q : ℕ) → st q ≡ x.0.vbs q
@@ -440,7 +440,7 @@ module _ (w0 : PlainWorld) (r0 : Chronicle) (n : ℕ) (link0 : PlainLink) (found
         refused_now st are said refused verdict grants e =
             answered_as (st, refused_told s o v ask pv.log pv.position.at said) e
             (refuse_last last st (same_states st are) pv.log pv.position.at said refused
-            (own_lawful r c now.agrees.sound now.agrees.hists mp v p pv (producer pv known) ask l dialed_there said verdict grants))
+            (own_lawful r c now.agrees.sound now.agrees.hists mp v p pv (producer pv known) ask l dialed_there no_flags said verdict grants))
 
         refuses : (why : Status) → open_refusal pv (next_stream s.end) ask ≡ Some why → Now fs (frame_up f x)
         refuses why because =

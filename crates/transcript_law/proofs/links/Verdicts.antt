@@ -1,6 +1,6 @@
 -- what is told of a request for a stream is lawful
 use Rattle.std.specs.Prelude.{◌≡◌, ◌<◌, ◌≤◌, ◌∷◌, ◌==◌, if◌then◌else◌, ◌^◌}
-use Rattle.transcript_law.proofs.Words.{ℕ, Bool, true, false, cond, List, [], refl, ap, sym, ◌∙◌, subst, arith, min, Option, Some, None, nat_le, All, filter}
+use Rattle.transcript_law.proofs.Words.{ℕ, Bool, true, false, cond, List, [], refl, ap, sym, ◌∙◌, subst, arith, min, inl, Option, Some, None, nat_le, All, filter}
 use Rattle.transcript_law.proofs.Words.{eqb-false, All-head, All-tail, AskInRange, AskAnswer, Position, LogEntry, Status, StreamAsk, Verdict, Continue, Roll, upto, last_seq, front, uuid_of, IsFront}
 use Rattle.transcript_law.proofs.Words.{effective_ss, effective_se, rule, request_of, reach_of, Branch, hist, Shared, Cluster, SoundCluster, Stream, Plain, is_active, open_refusal, stream_at, Sound}
 use Rattle.transcript_law.proofs.Words.{refuse, Chronicle, IsIfKnown, LawfulVerdict, IsDialed, LawfulAsk, entry_for, upper, judged, continues, rolls, is_ranged, id_refusal, first_reason}
@@ -87,8 +87,8 @@ opens_free vb id ask active e =
 pub absent_said : (r : Chronicle) (n v : ℕ) (ask : StreamAsk) → r.log_at n v ≡ Some [] → r.held n v ≡ [] → LawfulSaid r n v ask 0 [] (AskAnswer.Refuse 7)
 absent_said r n v ask log held = record { own_log = subst (λ o. IsIfKnown o []) (sym log) refl; own_high = sym (ap (last_seq 0) held); verdict = λ e. omega arith; active = tt }
 
-pub absent_lawful : (r : Chronicle) (l n v : ℕ) (ask : StreamAsk) → IsDialed r l n v → r.log_at n v ≡ Some [] → r.held n v ≡ [] → LawfulAsk r l n v ask 0 [] (AskAnswer.Refuse 7)
-absent_lawful r l n v ask dialed log held = record { dialed = dialed; answered = absent_said r n v ask log held }
+pub absent_lawful : (r : Chronicle) (l n v : ℕ) (ask : StreamAsk) → IsDialed r l n v → ask.flags ≡ 0 → r.log_at n v ≡ Some [] → r.held n v ≡ [] → LawfulAsk r l n v ask 0 [] (AskAnswer.Refuse 7)
+absent_lawful r l n v ask dialed plain log held = record { dialed = dialed; plain = inl plain; answered = absent_said r n v ask log held }
 
 -- the branch in front of a log, in another tree with the same histories
 shares_front : (a b : List Branch) → ((u : ℕ) → hist a u ≡ hist b u) → (log : List LogEntry) (uuid br n : ℕ) → IsFront log br → Shared a uuid br n → SharesFront b uuid log n
@@ -101,8 +101,8 @@ module _ (r : Chronicle) (c : Cluster) (sound : SoundCluster top c) (same : (u :
   pub own_said : (said : AskAnswer) → LawfulVerdict r.tree pv.log pv.position.at ask said → GrantsAs (r.role_at n v) said → LawfulSaid r n v ask pv.position.at pv.log said
   own_said said verdict active = record { own_log = subst (λ o. IsIfKnown o pv.log) (sym agrees.log) refl; own_high = sym (ap (last_seq 0) agrees.held ∙ agrees.high); verdict = verdict; active = active }
 
-  pub own_lawful : (l : ℕ) → IsDialed r l n v → (said : AskAnswer) → LawfulVerdict r.tree pv.log pv.position.at ask said → GrantsAs (r.role_at n v) said → LawfulAsk r l n v ask pv.position.at pv.log said
-  own_lawful l dialed said verdict active = record { dialed = dialed; answered = own_said said verdict active }
+  pub own_lawful : (l : ℕ) → IsDialed r l n v → ask.flags ≡ 0 → (said : AskAnswer) → LawfulVerdict r.tree pv.log pv.position.at ask said → GrantsAs (r.role_at n v) said → LawfulAsk r l n v ask pv.position.at pv.log said
+  own_lawful l dialed plain said verdict active = record { dialed = dialed; plain = inl plain; answered = own_said said verdict active }
 
   module _ (active : is_active pv.role ≡ true) where
     leads : (c.nodes p).active ≡ true

@@ -9,6 +9,7 @@ use Rattle.transcript_law.specs.ChangeRows.{Aborts, AbortsBehind, abort_lines, g
 use Rattle.transcript_law.specs.Chronicles.{alone}
 use Rattle.transcript_law.specs.Crashes.{ok}
 use Rattle.transcript_law.specs.Lawfulness.{IsGivenUp, IsMadeAt}
+use Rattle.transcript_law.proofs.verbs.Handing.{hands_plain}
 
 -- ---- where it has to be given up
 
@@ -74,7 +75,7 @@ a_millisecond = omega arith
 
 pub behind : AbortsBehind 0 1000000 0
 behind = (
-  (tt, tt, refl, refl, λ w no standing. cc, refl, tt, tt, λ n c there. cc, tt, tt, (tt, tt)),
+  (tt, tt, refl, refl, λ w no standing. cc, hands_plain _ _ _ _ refl refl, tt, tt, λ n c there. cc, tt, tt, (tt, tt)),
   (
     (
       (
@@ -95,7 +96,7 @@ behind = (
       refl,
       refl,
       λ w no standing. cc,
-      refl,
+      hands_plain _ _ _ _ refl refl,
       tt,
       tt,
       λ n c there. cc,

@@ -99,7 +99,7 @@ own_only l m n v = elim (l == 1) as (λ b. (if b then Some own_dial else None) �
 ]
 
 pub asked : LawfulFrom dialed_once (refused_at 0)
-asked = (record { dialed = (1, refl); answered = record { own_log = refl; own_high = refl; verdict = λ e. absurd (omega arith); active = tt } }, tt)
+asked = (record { dialed = (1, refl); plain = inl refl; answered = record { own_log = refl; own_high = refl; verdict = λ e. absurd (omega arith); active = tt } }, tt)
 
 pub asked_elsewhere : LawfulFrom dialed_once (refused_at 2) → ⊥
 unfolding producer_in

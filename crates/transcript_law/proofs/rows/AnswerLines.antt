@@ -26,10 +26,11 @@ use Rattle.transcript_law.proofs.rows.Answering.{asked_so, bare_bytes, byte_at, 
 use Rattle.transcript_law.proofs.rows.NextRows.{none_stored}
 use Rattle.transcript_law.proofs.rows.Silent.{here_answered}
 use Rattle.vb_events.specs.declared.event.Answer.TheVariants as answer
+use Rattle.transcript_law.proofs.verbs.Handing.{hands_plain}
 
 pub here : LawfulNext [] [] (comes (noop 9)) (ok (answers 9 ∷ []))
 unfolding spelling frames_in first_frame frame_of read_of frame_row shape_fault request_of requirement_of
-here = ((((refl, λ z. noop_answer 9 refl refl refl refl (tt, refl)), tt), refl, refl, refl, λ w no standing. cc, refl, tt, tt, here_answered (serving [] (unopened [])) (comes (noop 9)) (answers 9 ∷ []) answer.Ok (λ n c e. rw e refl) refl refl, tt, (λ e. cc), (tt, tt)), tt)
+here = ((((refl, λ z. noop_answer 9 refl refl refl refl (tt, refl)), tt), refl, refl, refl, λ w no standing. cc, hands_plain _ _ _ _ refl refl, tt, tt, here_answered (serving [] (unopened [])) (comes (noop 9)) (answers 9 ∷ []) answer.Ok (λ n c e. rw e refl) refl refl, tt, (λ e. cc), (tt, tt)), tt)
 
 pub unasked : LawfulNext [] [] sends_none (ok (answers 9 ∷ [])) → ⊥
 unfolding spelling frames_in first_frame frame_of read_of frame_row shape_fault request_of requirement_of
@@ -45,11 +46,11 @@ twice l = no_question (l.0.0.1.0.1 refl) refl refl
 
 pub pieces : LawfulNext [] (take 7 (noop 9)) (comes (drop 7 (noop 9))) (ok (answers 9 ∷ []))
 unfolding spelling frames_in first_frame frame_of read_of frame_row shape_fault request_of requirement_of
-pieces = ((((refl, λ z. noop_answer 9 refl refl refl refl (tt, refl)), tt), refl, refl, refl, λ w no standing. cc, refl, tt, tt, here_answered (serving [] (unopened (take 7 (noop 9)))) (comes (drop 7 (noop 9))) (answers 9 ∷ []) answer.Ok (λ n c e. rw e refl) refl refl, tt, (λ e. cc), (tt, tt)), tt)
+pieces = ((((refl, λ z. noop_answer 9 refl refl refl refl (tt, refl)), tt), refl, refl, refl, λ w no standing. cc, hands_plain _ _ _ _ refl refl, tt, tt, here_answered (serving [] (unopened (take 7 (noop 9)))) (comes (drop 7 (noop 9))) (answers 9 ∷ []) answer.Ok (λ n c e. rw e refl) refl refl, tt, (λ e. cc), (tt, tt)), tt)
 
 pub waited : LawfulNext [] (noop 9) ticks (ok (answers 9 ∷ []))
 unfolding spelling frames_in first_frame frame_of read_of frame_row shape_fault request_of requirement_of
-waited = ((((refl, λ z. noop_answer 9 refl refl refl refl (tt, refl)), tt), tt, refl, refl, λ w no standing. cc, refl, tt, tt, here_answered (serving [] (unopened (noop 9))) (ticks) (answers 9 ∷ []) answer.Ok (λ n c e. rw e refl) refl refl, tt, tt, (tt, tt)), tt)
+waited = ((((refl, λ z. noop_answer 9 refl refl refl refl (tt, refl)), tt), tt, refl, refl, λ w no standing. cc, hands_plain _ _ _ _ refl refl, tt, tt, here_answered (serving [] (unopened (noop 9))) (ticks) (answers 9 ∷ []) answer.Ok (λ n c e. rw e refl) refl refl, tt, tt, (tt, tt)), tt)
 
 pub each : LawfulTicks [] (noop 8 ++ noop 9) (ok (answers 8 ∷ []) ∷ ok (answers 9 ∷ []) ∷ []) → ⊥
 unfolding spelling frames_in first_frame frame_of read_of frame_row shape_fault request_of requirement_of
@@ -61,7 +62,7 @@ again l = no_question (l.1.0.0.0.1 refl) refl refl
 
 pub made : LawfulNext [] [] (comes (writes SET 0 7 8)) (ok (makes one_change ∷ stores SET 1 [] ∷ []))
 unfolding spelling frames_in first_frame frame_of read_of frame_row shape_fault request_of requirement_of
-made = (((makes_one _ _, ((refl, λ z. inl (record { question = _; next = refl; answer = reply_frame (stored_answer SET 9 1 []); spelled = refl; response = refl; opcode = refl; opaque = refl; calm = inl (_, refl, refl); fits = inr (record { branch = 5; change = one_change; clock = 0; older = []; alone = tt; last = refl; key = refl; cas = 1; rev = 1; act = refl; before = []; behind = refl; fits = ap (doc_refusal op.Set 0) (none_stored (7 ∷ [])); told = stored_so SET 9 1 [] }) })), tt)), refl, refl, refl, λ w no standing. cc, refl, tt, tt, here_answered (serving [] (unopened [])) (comes (writes SET 0 7 8)) (makes one_change ∷ stores SET 1 [] ∷ []) answer.Ok (λ n c e. rw e refl) refl refl, (λ own. record { client = _; answer = reply_frame (stored_answer SET 9 1 []); more = _; next = refl; made = refl; cas = refl }, tt), (λ e. cc), (tt, tt)), tt)
+made = (((makes_one _ _, ((refl, λ z. inl (record { question = _; next = refl; answer = reply_frame (stored_answer SET 9 1 []); spelled = refl; response = refl; opcode = refl; opaque = refl; calm = inl (_, refl, refl); fits = inr (record { branch = 5; change = one_change; clock = 0; older = []; alone = tt; last = refl; key = refl; cas = 1; rev = 1; act = refl; before = []; behind = refl; fits = ap (doc_refusal op.Set 0) (none_stored (7 ∷ [])); told = stored_so SET 9 1 [] }) })), tt)), refl, refl, refl, λ w no standing. cc, hands_plain _ _ _ _ refl refl, tt, tt, here_answered (serving [] (unopened [])) (comes (writes SET 0 7 8)) (makes one_change ∷ stores SET 1 [] ∷ []) answer.Ok (λ n c e. rw e refl) refl refl, (λ own. record { client = _; answer = reply_frame (stored_answer SET 9 1 []); more = _; next = refl; made = refl; cas = refl }, tt), (λ e. cc), (tt, tt)), tt)
 
 pub made_before : LawfulTicks [] (writes SET 0 7 8) (ok (makes one_change ∷ []) ∷ ok (stores SET 1 [] ∷ []) ∷ []) → ⊥
 unfolding spelling frames_in first_frame frame_of read_of frame_row shape_fault request_of requirement_of
@@ -69,7 +70,7 @@ made_before l = let (g, s, fits) = asked_so (l.1.0.0.0.1 refl) refl refl refl in
 
 pub committed : LawfulStill pending (durably 1 9 6) ticks (ok (makes committed_change ∷ stores SET 2 [] ∷ []))
 unfolding spelling frames_in first_frame frame_of read_of frame_row shape_fault request_of requirement_of
-committed = (((makes_commit _ _ _, ((refl, λ z. inl (record { question = _; next = refl; answer = reply_frame (stored_answer SET 9 2 []); spelled = refl; response = refl; opcode = refl; opaque = refl; calm = inr (inl ((_, _, refl, inl refl), (refl, tt))); fits = inr (first_number, inr (inl (record { one = had_committed; told_before = inl refl; here = refl; prepared = 2; doc = first_doc 2 (6 ∷ []); deleted = false; commits = refl; own = own_commit; told = stored_so SET 9 2 [] }))) })), tt)), tt, refl, refl, λ w no standing. cc, refl, tt, tt, here_answered (awaiting (serving pending (unopened (durably 1 9 6)))) (ticks) (makes committed_change ∷ stores SET 2 [] ∷ []) answer.Ok (λ n c e. rw e refl) refl refl, (λ own. cc, tt), tt, (tt, tt)), tt)
+committed = (((makes_commit _ _ _, ((refl, λ z. inl (record { question = _; next = refl; answer = reply_frame (stored_answer SET 9 2 []); spelled = refl; response = refl; opcode = refl; opaque = refl; calm = inr (inl ((_, _, refl, inl refl), (refl, tt))); fits = inr (first_number, inr (inl (record { one = had_committed; told_before = inl refl; here = refl; prepared = 2; doc = first_doc 2 (6 ∷ []); deleted = false; commits = refl; own = own_commit; told = stored_so SET 9 2 [] }))) })), tt)), tt, refl, refl, λ w no standing. cc, hands_plain _ _ _ _ refl refl, tt, tt, here_answered (awaiting (serving pending (unopened (durably 1 9 6)))) (ticks) (makes committed_change ∷ stores SET 2 [] ∷ []) answer.Ok (λ n c e. rw e refl) refl refl, (λ own. cc, tt), tt, (tt, tt)), tt)
 
 pub committed_before : LawfulTicks pending (durably 1 9 6) (ok (makes committed_change ∷ []) ∷ ok (stores SET 2 [] ∷ []) ∷ []) → ⊥
 unfolding spelling frames_in first_frame frame_of read_of frame_row shape_fault request_of requirement_of

@@ -47,6 +47,7 @@ use Rattle.transcript_law.proofs.rows.ClientStreamVerdicts.{no_active}
 use Rattle.transcript_law.proofs.rows.NextRows.{none_pending, none_stored, resolving_next}
 use Rattle.transcript_law.proofs.rows.Silent.{here_answered}
 use Rattle.transcript_law.proofs.rows.WaitingKeys.{nine_waits, waits as pend}
+use Rattle.transcript_law.proofs.verbs.Handing.{hands_plain}
 
 -- ---- where nobody knows
 
@@ -293,4 +294,4 @@ makes_abort l clients = record {
 
 pub ticked : LawfulLate (durably 1 9 6) ticks (ok (makes aborted ∷ unknown_set ∷ []))
 unfolding spelling frames_in first_frame frame_of read_of frame_row shape_fault request_of requirement_of
-ticked = (((makes_abort _ _, ((refl, λ z. inl (record { question = _; next = refl; answer = reply_frame (bare_answer SET status.SyncWriteAmbiguous 9); spelled = refl; response = refl; opcode = refl; opaque = refl; calm = inr (inl ((_, _, refl, inr refl), (refl, tt))); fits = inr (first_number, inr (inr (record { said = bare_so SET 9 status.SyncWriteAmbiguous; own = given 30000 0 half_a_minute (inl (omega arith)) }))) })), tt)), tt, refl, refl, λ w no standing. cc, refl, tt, tt, here_answered (record (awaiting (serving pending (unopened (durably 1 9 6)))) { clock_at = λ n. half_a_minute; counts_at = λ n v. record (alone 0) { times = (2, 0) ∷ [] } }) ticks (makes aborted ∷ unknown_set ∷ []) answer.Ok (λ n c e. rw e refl) refl refl, (λ own. cc, tt), tt, (tt, tt)), tt)
+ticked = (((makes_abort _ _, ((refl, λ z. inl (record { question = _; next = refl; answer = reply_frame (bare_answer SET status.SyncWriteAmbiguous 9); spelled = refl; response = refl; opcode = refl; opaque = refl; calm = inr (inl ((_, _, refl, inr refl), (refl, tt))); fits = inr (first_number, inr (inr (record { said = bare_so SET 9 status.SyncWriteAmbiguous; own = given 30000 0 half_a_minute (inl (omega arith)) }))) })), tt)), tt, refl, refl, λ w no standing. cc, hands_plain _ _ _ _ refl refl, tt, tt, here_answered (record (awaiting (serving pending (unopened (durably 1 9 6)))) { clock_at = λ n. half_a_minute; counts_at = λ n v. record (alone 0) { times = (2, 0) ∷ [] } }) ticks (makes aborted ∷ unknown_set ∷ []) answer.Ok (λ n c e. rw e refl) refl refl, (λ own. cc, tt), tt, (tt, tt)), tt)

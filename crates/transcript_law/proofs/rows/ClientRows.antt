@@ -14,6 +14,7 @@ unfoldable use Rattle.mcbp_kv.specs.Requests.{request_of}
 use Rattle.mcbp_frame.specs.declared.frame.FrameFault.TheVariants.{BadMagic}
 use Rattle.vb_disk.specs.declared.made.Outcome.TheVariants.{Old}
 use Rattle.transcript_law.proofs.rows.Answering.{no_question, noop_answer}
+use Rattle.transcript_law.proofs.verbs.Handing.{hands_plain}
 
 -- what was read when the connection was opened
 abbrev read : Chronicle
@@ -46,7 +47,7 @@ in_front = from_opened (sends 1 ∷ []) (ok [] ∷ []) refl ((tt, refl, refl), t
 -- the group in which the connection closes
 breaks_off : LawfulGroups read (numbered 3 (breaks 1 ∷ [])) (groups_from_number 3 (ok (closes 0 1 ∷ []) ∷ []))
 unfolding spelling frames_in first_frame frame_of
-breaks_off = ((((refl, λ opened. refl), tt), refl, refl, refl, λ w no standing. cc, refl, tt, tt, here_answered read (breaks 1) (closes 0 1 ∷ []) Answer.Ok (λ n c e. rw e refl) refl refl, tt, λ e. record { fault = BadMagic; stands = refl; front = []; last = refl }, (tt, tt)), tt)
+breaks_off = ((((refl, λ opened. refl), tt), refl, refl, refl, λ w no standing. cc, hands_plain _ _ _ _ refl refl, tt, tt, here_answered read (breaks 1) (closes 0 1 ∷ []) Answer.Ok (λ n c e. rw e refl) refl refl, tt, λ e. record { fault = BadMagic; stands = refl; front = []; last = refl }, (tt, tt)), tt)
 
 pub closed : LawfulOpened (breaks 1 ∷ []) (ok (closes 0 1 ∷ []) ∷ [])
 closed = (in_front.0, (in_front.1.0, breaks_off))
@@ -181,7 +182,7 @@ sent_closed l = not_both l.1.1.1.0.1
 
 pub closed_anew : LawfulOpened (breaks 1 ∷ opens 1 ∷ []) (ok (closes 0 1 ∷ []) ∷ ok [] ∷ [])
 unfolding spelling frames_in first_frame frame_of
-closed_anew = (in_front.0, (in_front.1.0, (breaks_off.0, ((tt, refl, refl, refl, λ w no standing. cc, refl, tt, tt, here_answered (after_group read (breaks 1) (closes 0 1 ∷ []) Answer.Ok) (opens 1) [] Answer.Ok (λ n c e. rw e refl) refl refl, tt, tt, (tt, tt)), tt))))
+closed_anew = (in_front.0, (in_front.1.0, (breaks_off.0, ((tt, refl, refl, refl, λ w no standing. cc, hands_plain _ _ _ _ refl refl, tt, tt, here_answered (after_group read (breaks 1) (closes 0 1 ∷ []) Answer.Ok) (opens 1) [] Answer.Ok (λ n c e. rw e refl) refl refl, tt, tt, (tt, tt)), tt))))
 
 -- ---- nodes that stop
 

@@ -37,6 +37,7 @@ use Rattle.transcript_law.proofs.rows.ClientStreams.{◌▹◌, all_between}
 use Rattle.transcript_law.proofs.rows.Silent.{here_answered}
 use Rattle.vb_events.specs.declared.event.Answer.TheVariants as answer
 use Rattle.transcript_law.specs.LinesTold.{LastLine}
+use Rattle.transcript_law.proofs.verbs.Handing.{hands_plain}
 
 -- ---- requests that are answered as they are to be
 
@@ -216,7 +217,7 @@ pieces = (
     refl,
     refl,
     λ w no standing. cc,
-    refl,
+    hands_plain _ _ _ _ refl refl,
     tt,
     tt,
     here_answered (serving two (that_sent none (take 30 (requesting 0 all_changes)))) (sends_rest 30 (requesting 0 all_changes)) (asked all_changes ask_answer.Go) answer.Ok (λ n c e. rw e refl) refl refl,

@@ -28,12 +28,13 @@ use Rattle.transcript_law.proofs.rows.ClientStreams.{none_counted}
 use Rattle.transcript_law.proofs.rows.ClientStreamVerdicts.{no_active}
 use Rattle.transcript_law.proofs.rows.Silent.{here_answered, none_of, unbroken_of}
 use Rattle.vb_events.specs.declared.event.Why.TheVariants as why
+use Rattle.transcript_law.proofs.verbs.Handing.{hands_plain, tells_of}
 
 -- ---- idle pulls
 
 -- an idle pull is lawful where each stream is quiet
 idles : (changes : List Change) (known : ClientKnown) → known.asking.bytes ≡ [] → known.flow ≡ blank_flow → AllQuiet (at_line (serving changes known) 1) 0 known → LawfulPulled changes known idle
-idles changes known silent unflown quiet = ((tt, (refl, record { told = refl; most = omega arith; all = λ e. cc; only = λ e. absurd (omega (arith, e)) }), refl, refl, (λ w no standing. cc), refl, refl, (quiet, none_counted known (ap (λ (f : FlowKnown). f.bytes) unflown) (ap (λ (f : FlowKnown). lets_through f.window) unflown)), here_answered (serving changes known) pulls [] (answer.Pulled 0 why.Idle) (λ n c e. rw e refl) (none_of known.asking silent) (unbroken_of known.asking silent), tt, tt, (tt, tt)), tt)
+idles changes known silent unflown quiet = ((tt, (refl, record { told = refl; most = omega arith; all = λ e. cc; only = λ e. absurd (omega (arith, e)) }), refl, refl, (λ w no standing. cc), hands_plain _ _ _ _ refl refl, refl, (quiet, none_counted known (ap (λ (f : FlowKnown). f.bytes) unflown) (ap (λ (f : FlowKnown). lets_through f.window) unflown)), here_answered (serving changes known) pulls [] (answer.Pulled 0 why.Idle) (λ n c e. rw e refl) (none_of known.asking silent) (unbroken_of known.asking silent), tt, tt, (tt, tt)), tt)
 
 -- of one stream it is enough that this one is
 one_quiet : (changes : List Change) (g : ClientStream) → IsQuiet (at_line (serving changes (with_streams (one g))) 1) 0 0 g → AllQuiet (at_line (serving changes (with_streams (one g))) 1) 0 (with_streams (one g))
@@ -147,7 +148,7 @@ pub miscounted : LawfulPulled two (with_streams (one (fresh true (up_to 2)))) (p
 miscounted l = let e : ◌≡◌ {A = ℕ} 3 4 = l.0.1.1.told in omega (arith, e)
 
 pub other : LawfulPulled two (with_streams (one (fresh true all_changes))) (puts 1 other_marked) → ⊥
-other l = let e : false ≡ true = l.0.5 in cc
+other l = let e : false ≡ true = tells_of _ _ _ _ tt l.0.5 in cc
 
 pub more : LawfulPulled two (with_streams (one (fresh true all_changes))) (puts 1 (marked 0 0 2 ++ untold)) → ⊥
 more l = let e : ◌≡◌ {A = ℕ} 3 2 = l.0.6 in omega (arith, e)

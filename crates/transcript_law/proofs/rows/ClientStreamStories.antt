@@ -39,6 +39,7 @@ use Rattle.vb_events.specs.declared.event.Why.TheVariants as why
 use Rattle.transcript_law.specs.{Chronicles.{Chronicle, after_group}, StreamsTold.{Asking}}
 use Rattle.transcript_law.proofs.rows.Silent.{here_answered, none_of, unbroken_of}
 use Rattle.transcript_law.specs.LinesTold.{LastLine}
+use Rattle.transcript_law.proofs.verbs.Handing.{hands_plain}
 
 -- ---- a pull
 
@@ -91,7 +92,7 @@ counted = (
     refl,
     refl,
     λ w no standing. cc,
-    refl,
+    hands_plain _ _ _ _ refl refl,
     refl,
     (λ v g is opens stays. absurd (all_over g (v == 0) (sym (streams_behind (one granted) (λ w. refl) v) ∙ is) opens), refl),
     here_answered (serving two (with_streams (one granted))) pulls all_lines (answer.Pulled 4 why.Idle) (λ n c e. rw e refl) (none_of blank_now refl) (unbroken_of blank_now refl),
@@ -149,7 +150,7 @@ story = (
   refl,
   refl,
   λ w no standing. cc,
-  refl,
+  hands_plain _ _ _ _ refl refl,
   tt,
   tt,
   here_answered (serving two blank_client) asks_first first_lines answer.Ok (λ n c e. rw e refl) refl refl,
@@ -166,7 +167,7 @@ story = (
       refl,
       refl,
       λ w no standing. cc,
-      refl,
+      hands_plain _ _ _ _ refl refl,
       refl,
       (λ v g is opens stays. absurd (all_over g (v == 0) (sym (streams_behind (with_id (unclosed sent_frames nothing) 0 (Some granted)) (granted_one sent_frames) v) ∙ is) opens), refl),
       here_answered story_asked pulls all_lines (answer.Pulled 4 why.Idle) (λ n c e. rw e refl) refl refl,

@@ -26,6 +26,7 @@ use Rattle.transcript_law.proofs.rows.ClientStreamAsks.{all_order, answer_of, fa
 use Rattle.transcript_law.proofs.rows.Silent.{here_answered}
 use Rattle.transcript_law.proofs.rows.TellingRows.{link_never, may_never}
 use Rattle.vb_events.specs.declared.event.Answer.TheVariants as answer
+use Rattle.transcript_law.proofs.verbs.Handing.{hands_plain}
 
 pub pull_change : MayNotTell pulls changes_here
 pull_change = may_never pulls changes_here (λ r. refl) (λ r m. refl)
@@ -76,7 +77,7 @@ tick_ask = (
     refl,
     refl,
     λ w no standing. cc,
-    refl,
+    hands_plain _ _ _ _ refl refl,
     tt,
     tt,
     here_answered (serving two (that_sent none (requesting 0 all_changes))) ticks (asked all_changes ask_answer.Go) answer.Ok (λ n c e. rw e refl) refl refl,

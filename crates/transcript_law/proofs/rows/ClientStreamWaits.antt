@@ -14,6 +14,7 @@ use Rattle.transcript_law.specs.{LawfulClients.{AllRest, IsQuiet, NoneWithin, On
 use Rattle.transcript_law.specs.StreamLaws.{EndsThere}
 use Rattle.transcript_law.proofs.rows.ClientStreams.{none_counted}
 use Rattle.transcript_law.proofs.rows.Silent.{here_answered, none_of, unbroken_of}
+use Rattle.transcript_law.proofs.verbs.Handing.{hands_plain}
 
 -- what was read before the pull
 abbrev read : ℕ → List Change → (ℕ → Option ClientStream) → Chronicle
@@ -28,7 +29,7 @@ waits_by seq changes streams rest one = (
     refl,
     refl,
     (λ w no standing. cc),
-    refl,
+    hands_plain _ _ _ _ refl refl,
     refl,
     (rest, one, none_counted (with_streams streams) refl refl),
     here_answered (saved_to seq (serving changes (with_streams streams))) pulls [] (answer.Pulled 0 why.WaitSaved) (λ n c e. rw e refl) (none_of (with_streams streams).asking refl) (unbroken_of (with_streams streams).asking refl),

@@ -16,6 +16,7 @@ use Rattle.transcript_law.specs.ClientStreamRows.{all_changes, ended, fresh, ins
 use Rattle.transcript_law.specs.Transcripts.{one_change}
 use Rattle.transcript_law.proofs.rows.ClientStreamMarks.{header, mark_still, two_next}
 use Rattle.transcript_law.proofs.rows.Silent.{here_answered, none_of, unbroken_of}
+use Rattle.transcript_law.proofs.verbs.Handing.{hands_plain}
 
 -- ---- frames
 
@@ -72,7 +73,7 @@ full = (
     refl,
     refl,
     (λ w no standing. cc),
-    refl,
+    hands_plain _ _ _ _ refl refl,
     refl,
     refl,
     here_answered (serving two (with_window 100 100 [] none)) pulls [] (answer.Pulled 0 why.Full) (λ n c e. rw e refl) (none_of (with_window 100 100 [] none).asking refl) (unbroken_of (with_window 100 100 [] none).asking refl),

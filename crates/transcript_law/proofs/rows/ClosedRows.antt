@@ -14,7 +14,7 @@ use Rattle.vb_disk.specs.declared.made.Outcome.TheVariants.{Old}
 use Rattle.vb_events.specs.declared.event.Answer.TheVariants as answer
 use Rattle.vb_events.specs.declared.event.Cause.TheVariants as cause
 use Rattle.vb_types.specs.declared.journal.Batch.{Batch}
-use Rattle.transcript_law.proofs.verbs.Handing.{no_rise}
+use Rattle.transcript_law.proofs.verbs.Handing.{no_rise, tells_of}
 
 is_shut : true ≡ false → ⊥
 is_shut e = cc
@@ -149,13 +149,13 @@ abbrev behind : NodeVerb → Chronicle
 behind arm = at_line (after_group (at_line (dialed_for false) 1) (verb.AtNode 1 arm) [] answer.Ok) 2
 
 pub unsent_failed : (lines : List Event) → LawfulGroups (dialed_for false) (down_under (verb.AtNode 1 (node_verb.Fail 1))) (down_under_groups (lines, answer.No cause.Disk)) → ⊥
-unsent_failed lines l = unowed lines l.1.0.1.0.1 (no_rise (behind (node_verb.Fail 1)) 1 10 lines l.1.0.5)
+unsent_failed lines l = unowed lines l.1.0.1.0.1 (no_rise (behind (node_verb.Fail 1)) 1 10 lines (tells_of (behind (node_verb.Fail 1)) (verb.AtLink 1 (link_verb.Down 10)) lines (answer.No cause.Disk) refl l.1.0.5))
 
 pub unsent_stopped : (lines : List Event) → LawfulGroups (dialed_for false) (down_under (verb.AtNode 1 (node_verb.Stop 1 Old))) (down_under_groups (lines, answer.No cause.Stopped)) → ⊥
-unsent_stopped lines l = unowed lines l.1.0.1.0.1 (no_rise (behind (node_verb.Stop 1 Old)) 1 10 lines l.1.0.5)
+unsent_stopped lines l = unowed lines l.1.0.1.0.1 (no_rise (behind (node_verb.Stop 1 Old)) 1 10 lines (tells_of (behind (node_verb.Stop 1 Old)) (verb.AtLink 1 (link_verb.Down 10)) lines (answer.No cause.Stopped) refl l.1.0.5))
 
 pub unsent_closed : (lines : List Event) → LawfulHere (dialed_for true) (verb.AtLink 1 (link_verb.Down 10)) (lines, answer.No cause.Closed) → ⊥
-unsent_closed lines l = unowed lines l.0.1.0.1 (no_rise (at_line (dialed_for true) 1) 1 10 lines l.0.5)
+unsent_closed lines l = unowed lines l.0.1.0.1 (no_rise (at_line (dialed_for true) 1) 1 10 lines (tells_of (at_line (dialed_for true) 1) (verb.AtLink 1 (link_verb.Down 10)) lines (answer.No cause.Closed) refl l.0.5))
 
 pub unsent_back : (closed : Bool) → LawfulAnswer (dialed_for closed) (verb.AtLink 1 (link_verb.Down 10)) (back_line ∷ []) (answer.Number 10) → ⊥
 unsent_back closed l = let b = (l.0.1 refl).0 in none_back (b.0, b.1)

@@ -1,6 +1,6 @@
 -- transcripts of a replica that follows, judged by hand
 use Rattle.std.specs.Prelude.{◌≡◌, ◌<◌, ◌≤◌, ◌∷◌, ◌++◌, ◌==◌, ◌&&◌, if◌then◌else◌}
-use Rattle.transcript_law.proofs.Words.{ℕ, is_some, List, [], length, map, take, drop, refl, ap, sym, subst, ◌∙◌, ⊎_elim, inl, inr, arith, eqb-true, Option, Some, None}
+use Rattle.transcript_law.proofs.Words.{ℕ, suc, is_some, List, [], length, map, take, drop, refl, ap, sym, subst, ◌∙◌, ⊎_elim, inl, inr, arith, eqb-true, Option, Some, None}
 use Rattle.transcript_law.proofs.Words.{nat_list_cmp_total, key_cmp, Change, Pend, Event, LogEntry, Continue, Roll, Rises, IsIn, Picture, image_of, is_older, last_seq, StandsAs, IsOf, front, uuid_of, Covers, Branch}
 use Rattle.transcript_law.proofs.Words.{Role, rises_in, document_line, prepare_line, image_lines, ItemLine, Begun, Granted, Dial, Chronicle, granted, is_dial_of, empty_chronicle, after_lines, item_of_change}
 use Rattle.transcript_law.proofs.Words.{IsMarker, IsNextItem, LawfulAsk, LawfulMark, LawfulItem, LawfulFrom, Lawful, frames_in_lines, first_doc, one_change, two_followed, next_change, log_of, ask_within}
@@ -21,7 +21,9 @@ use Rattle.script_text.specs.declared.verb.LinkVerb.{LinkVerb}
 use Rattle.script_text.specs.declared.verb.LinkVerb.TheVariants as link_verb
 use Rattle.transcript_law.specs.LinesTold.{LastLine}
 use Rattle.transcript_law.proofs.lines.Rises.{made_here}
-use Rattle.transcript_law.proofs.verbs.Handing.{no_rise}
+use Rattle.transcript_law.proofs.lines.Takeovers.{none_known}
+use Rattle.transcript_law.proofs.rows.Groups.{are_plain}
+use Rattle.transcript_law.proofs.verbs.Handing.{no_rise, plain_all}
 use Rattle.transcript_law.specs.Chronicles.{is_rise}
 
 infixr 2 ◌▹◌
@@ -174,11 +176,15 @@ quiet_show : (shown : List Event) → is_quiet (verb.AtVb 1 0 vb_verb.Show) (sho
 quiet_show [] = refl
 quiet_show (line ∷ lines) = refl
 
+-- no link is dialed for a takeover
+plain_in : (k : ℕ) (told : List Group) (asked : Verb) (lines : List Event) → are_plain (at_line (behind k told) (suc k)) asked lines ≡ true
+plain_in k told asked lines = plain_all (at_line (behind k told) (suc k)) asked lines (none_known (take k two_followed) (take k told))
+
 from_asked : (asked adopted sent got shown : List Event) → frames_in_lines sent < 9 → none_stored (drop 8 (followed_groups asked adopted sent got shown)) ≡ true → (is_unclosed asked ≡ true) × (is_unclosed adopted ≡ true) × (is_unclosed sent ≡ true) × (is_unclosed got ≡ true) × (is_unclosed shown ≡ true) → (list_any is_rollback adopted ≡ true → ⊥) → (list_any is_rollback got ≡ true → ⊥) → StaysSo (followed_groups asked adopted sent got shown) → AskedSo asked adopted sent got shown → AreTold before_asked (drop 8 two_followed) (drop 8 (followed_groups asked adopted sent got shown))
     → AreFired before_asked (drop 8 two_followed) (drop 8 (followed_groups asked adopted sent got shown)) → (let told = followed_groups asked adopted sent got shown in
     (list_any is_taking adopted ≡ true → AllAcknowledged (after_lines (at_line (behind 9 told) 10) adopted) 1) × (list_any is_taking got ≡ true → AllAcknowledged (after_lines (at_line (behind 11 told) 12) got) 1)) → Lawful two_followed (followed_groups asked adopted sent got shown)
 from_asked asked adopted sent got shown few none shut straight sound so told_so l f acks = let told = followed_groups asked adopted sent got shown in both_left empty_chronicle two_followed (followed_groups asked adopted sent got shown)
-    (λ i. told_so.0 (is_of_end (at_line before_asked 9)) i && (shut.0 i && (told_in (behind 9 told) 10 (link_verb.Down 1000) adopted so.0 told_so.1 i && (shut.1 i && (told_in (behind 10 told) 11 (link_verb.Pump 9) sent so.1 told_so.2 i && (shut.2 i && (told_in (behind 11 told) 12 (link_verb.Down 1000) got so.2 told_so.3 i && (shut.3 i && (shows_so shown i && (told_so.4 (is_of_end (at_line (behind 12 told) 13)) i && (told_so.5 i && (shut.4 i && true))))))))))))
+    (λ i. told_so.0 (is_of_end (at_line before_asked 9)) i && (shut.0 i && (plain_in 8 told (verb.AtLink 1 (link_verb.Up 1000)) asked i && (told_in (behind 9 told) 10 (link_verb.Down 1000) adopted so.0 told_so.1 i && (shut.1 i && (plain_in 9 told (verb.AtLink 1 (link_verb.Down 1000)) adopted i && (told_in (behind 10 told) 11 (link_verb.Pump 9) sent so.1 told_so.2 i && (shut.2 i && (plain_in 10 told (verb.AtLink 1 (link_verb.Pump 9)) sent i && (told_in (behind 11 told) 12 (link_verb.Down 1000) got so.2 told_so.3 i && (shut.3 i && (plain_in 11 told (verb.AtLink 1 (link_verb.Down 1000)) got i && (shows_so shown i && (told_so.4 (is_of_end (at_line (behind 12 told) 13)) i && (told_so.5 i && (shut.4 i && (plain_in 12 told (verb.AtVb 1 0 vb_verb.Show) shown i && true)))))))))))))))))
     (tt ▹ tt ▹ tt ▹ (record { new = tt; newest = refl; last = refl; leaves = refl } ▹ record { another = λ e. cc; anew = λ e. made_here _ _ _ 5 refl refl refl; pending = λ e. cc } ▹ tt) ▹ (record { another = λ e. cc; anew = λ e. cc; pending = λ e. cc } ▹ tt) ▹ (search (arith, first_next) ▹ (refl, λ z. first_told _ _ _ refl refl refl) ▹ tt) ▹ (search (arith, second_next) ▹ (refl, λ z. next_told _ _ _ (nine_sent (once_set.clients_at 0 1) seven_past) refl refl) ▹ tt) ▹ tt ▹ l)
     (tt ▹ tt ▹ refl ▹ (refl ▹ tt) ▹ (refl ▹ tt) ▹ refl ▹ refl ▹ (refl ▹ (λ k. refl)) ▹ omega arith ▹ unbound (behind 9 told) (verb.AtLink 1 (link_verb.Down 1000)) adopted (answer.Number 100) (ap if_over so.0) ((omega arith, λ e. absurd (straight e), λ e. absurd (level_in (behind 9 told) 10 adopted so.0 told_so.1 e)), tt) ▹ unbound (behind 10 told) (verb.AtLink 1 (link_verb.Pump 9)) sent (answer.Pulled (frames_in_lines sent) why.Full) (ap if_over so.1) (record { told = refl; most = omega (arith, few); all = λ e. cc; only = λ e. absurd (omega (arith, few, e)) }) ▹ unbound (behind 11 told) (verb.AtLink 1 (link_verb.Down 1000)) got (answer.Number 100) (ap if_over so.2) ((omega arith, λ e. absurd (sound e), λ e. absurd (level_in (behind 11 told) 12 got so.2 told_so.3 e)), tt) ▹ unbound (behind 12 told) (verb.AtVb 1 0 vb_verb.Show) shown (show_answer shown) (ap if_down so.3) (carried shown) ▹ tt)
     (refl ▹ refl ▹ refl ▹ refl ▹ refl ▹ refl ▹ refl ▹ refl ▹ f)
@@ -189,7 +195,7 @@ from_asked asked adopted sent got shown few none shut straight sound so told_so 
 
 -- the request of the empty replica is granted, and the log is taken over
 own_request : (l : Option LastLine) → LawfulAsk (record before_asked { last = l }) 1 0 0 (ask_above 0 0) 2 (log_of 5) ask_answer.Go
-own_request l = record { dialed = (1, refl); answered = record { own_log = refl; own_high = refl; verdict = (refl, λ z. absurd (omega arith)); active = refl } }
+own_request l = record { dialed = (1, refl); plain = inl refl; answered = record { own_log = refl; own_high = refl; verdict = (refl, λ z. absurd (omega arith)); active = refl } }
 
 pub asks : Lawful two_followed (ask_groups granted_lines)
 asks = from_asked granted_lines [] [] [] [] (omega arith) refl (refl, refl, refl, refl, refl) (λ e. cc) (λ e. cc) (refl, refl, refl, refl) (λ e. refl, λ e. refl, λ e. refl, λ e. refl, λ e. refl, refl) ((own_request _, tt), (tt, (tt, (tt, (tt, tt))))) (refl ▹ refl ▹ refl ▹ refl ▹ refl ▹ tt) (λ t. cc, λ t. cc)
@@ -424,10 +430,10 @@ elsewhere l =
 -- a vBucket that was put on a branch made from its own, or from another
 
 pub continues : LawfulFrom (made_from 5) (made_ask_lines 1 ask_answer.Go)
-continues = (record { dialed = (1, refl); answered = record { own_log = refl; own_high = refl; verdict = (refl, λ z. refl); active = refl } }, tt)
+continues = (record { dialed = (1, refl); plain = inl refl; answered = record { own_log = refl; own_high = refl; verdict = (refl, λ z. refl); active = refl } }, tt)
 
 pub rolls : LawfulFrom (made_from 5) (made_ask_lines 2 (ask_answer.Roll 1))
-rolls = (record { dialed = (1, refl); answered = record { own_log = refl; own_high = refl; verdict = (refl, λ z. refl); active = refl } }, tt)
+rolls = (record { dialed = (1, refl); plain = inl refl; answered = record { own_log = refl; own_high = refl; verdict = (refl, λ z. refl); active = refl } }, tt)
 
 -- a vBucket that is dead does neither
 dead_grants : ◌≡◌ {A = Option (Option Role)} (Some (Some Role.Dead)) (Some (Some Role.Active)) → ⊥
@@ -440,7 +446,7 @@ pub dead_rolls : LawfulFrom made_dead (made_ask_lines 2 (ask_answer.Roll 1)) →
 dead_rolls l = dead_grants l.0.answered.active
 
 pub dead_refuses : LawfulFrom made_dead (made_ask_lines 1 (ask_answer.Refuse 7))
-dead_refuses = (record { dialed = (1, refl); answered = record { own_log = refl; own_high = refl; verdict = λ e. absurd (omega arith); active = tt } }, tt)
+dead_refuses = (record { dialed = (1, refl); plain = inl refl; answered = record { own_log = refl; own_high = refl; verdict = λ e. absurd (omega arith); active = tt } }, tt)
 
 pub stranger : LawfulFrom (made_from 6) (made_ask_lines 1 ask_answer.Go) → ⊥
 stranger l = let e : ◌≡◌ {A = List Change} (one_change ∷ []) [] = l.0.answered.verdict.1 (omega arith) in cc
@@ -451,7 +457,7 @@ rolls_stranger l = let e : ◌≡◌ {A = List Change} (one_change ∷ []) [] = 
 -- a replica that is asked itself
 
 pub onward : LawfulFrom after_both (replica_ask_lines 2)
-onward = (record { dialed = (2, refl); answered = record { own_log = refl; own_high = refl; verdict = λ e. absurd (omega arith); active = tt } }, tt)
+onward = (record { dialed = (2, refl); plain = inl refl; answered = record { own_log = refl; own_high = refl; verdict = λ e. absurd (omega arith); active = tt } }, tt)
 
 pub onward_none : LawfulFrom after_both (replica_ask_lines 0) → ⊥
 onward_none l = let e : ◌≡◌ {A = ℕ} 0 2 = l.0.answered.own_high in omega arith

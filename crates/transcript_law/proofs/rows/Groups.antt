@@ -9,7 +9,7 @@ use Rattle.script_text.specs.declared.verb.ClientVerb.TheVariants as client_verb
 use Rattle.script_text.specs.declared.verb.LinkVerb.TheVariants as link_verb
 use Rattle.script_text.specs.declared.verb.NodeVerb.TheVariants as node_verb
 use Rattle.transcript_law.proofs.rows.AskedTests.{asked_so, is_asked_so}
-use Rattle.transcript_law.proofs.verbs.Handing.{SealsKnown, hands_none}
+use Rattle.transcript_law.proofs.verbs.Handing.{goes_plain, hands_plain, is_plain}
 use Rattle.transcript_law.proofs.rows.Ended.{AreEnded, Undialed, all_quiet, dials_none, is_quiet, quiet_ended, undialed_ended}
 unfoldable use Rattle.transcript_law.proofs.rows.Silent.{AreHeard}
 use Rattle.transcript_law.proofs.lines.Stored.{is_settled, settled_next}
@@ -47,6 +47,7 @@ takes_some (answer.Number n) = not (n == 0)
 takes_some other = true
 
 abbrev pub is_done : Verb → List Event → Answer → Bool
+is_done asked lines (answer.Pulled n why.WaitState) = false
 is_done (verb.AtVb n v vb_verb.Take) lines said = takes_some said
 is_done (verb.AtLink l (link_verb.Down wanted)) lines said = not (list_any is_taking lines)
 is_done other lines (answer.Pulled n why.Idle) = false
@@ -80,6 +81,7 @@ done_so chronicle asked lines (answer.Pulled n why.Full) e = shut asked e
     shut : (asked : Verb) → is_done asked lines (answer.Pulled n why.Full) ≡ true → IsShutFor (after_lines chronicle lines) asked
     shut (verb.AtClient n c (client_verb.Pull wanted)) f = cc
     shut other f = tt
+done_so chronicle asked lines (answer.Pulled n why.WaitState) e = cc
 done_so chronicle asked lines other e = tt
 
 -- whether each has its line's number, tells of nothing where it was refused before its line was begun, of nothing else than its line may, and what its line asked for
@@ -124,19 +126,9 @@ nothing_closed chronicle (verb.AtClient n c (client_verb.Bytes bytes)) = λ e. c
 nothing_closed chronicle (verb.AtNode n (node_verb.Crash out)) = tt
 nothing_closed chronicle other = tt
 
--- and seals as it is known
-abbrev pub seals_so : Chronicle → Verb → Answer → Bool
-seals_so chronicle (verb.AtVb n v vb_verb.Seal) answer.Ok = false
-seals_so chronicle (verb.AtVb n v vb_verb.Seal) (answer.Number count) = count == (if chronicle.open_at n v then 1 else 0)
-seals_so chronicle (verb.AtVb n v vb_verb.Seal) (answer.Pulled count said) = false
-seals_so chronicle asked said = true
-
-sealed_so : (chronicle : Chronicle) (asked : Verb) (said : Answer) → seals_so chronicle asked said ≡ true → SealsKnown chronicle asked said
-sealed_so chronicle (verb.AtVb n v vb_verb.Seal) answer.Ok e = cc
-sealed_so chronicle (verb.AtVb n v vb_verb.Seal) (answer.Number count) e = eqb-true count (if chronicle.open_at n v then 1 else 0) e
-sealed_so chronicle (verb.AtVb n v vb_verb.Seal) (answer.Pulled count said) e = cc
-sealed_so chronicle (verb.AtVb n v vb_verb.Seal) (answer.No why) e = tt
-sealed_so chronicle other said e = tt
+-- and no link in it is dialed for a takeover
+abbrev pub are_plain : Chronicle → Verb → List Event → Bool
+are_plain chronicle asked lines = are_all (is_plain chronicle) lines && goes_plain chronicle asked
 
 abbrev pub in_line : Chronicle → List ScriptLine → List Group → Bool
 in_line chronicle [] [] = true
@@ -144,7 +136,7 @@ in_line chronicle (line ∷ lines) [] = false
 in_line chronicle [] (group ∷ groups) = false
 in_line chronicle (line ∷ lines) (group ∷ groups) =
     group.line == line.line
-    && (is_answered_so group.events group.answer && (are_told (may_tell_of (at_line chronicle line.line) line.verb) (is_of_end (at_line chronicle line.line)) group.events && (is_asked_so line.verb group.events group.answer && (closes_none line.verb group.events && (seals_so (at_line chronicle line.line) line.verb group.answer && in_line (after_group (at_line chronicle line.line) line.verb group.events group.answer) lines groups)))))
+    && (is_answered_so group.events group.answer && (are_told (may_tell_of (at_line chronicle line.line) line.verb) (is_of_end (at_line chronicle line.line)) group.events && (is_asked_so line.verb group.events group.answer && (closes_none line.verb group.events && (are_plain (at_line chronicle line.line) line.verb group.events && in_line (after_group (at_line chronicle line.line) line.verb group.events group.answer) lines groups)))))
 
 -- and leaves nothing undone, by its line alone, and none dials
 abbrev pub all_done : List ScriptLine → List Group → Bool
@@ -241,8 +233,8 @@ whole_left chronicle (line ∷ lines) (group ∷ groups) o p d h s e =
     let three = and_parts (are_told (may_tell_of (at_line chronicle line.line) line.verb) (is_of_end (at_line chronicle line.line)) group.events) _ two.1 in
     let four = and_parts (is_asked_so line.verb group.events group.answer) _ three.1 in
     let five = and_parts (closes_none line.verb group.events) _ four.1 in
-    let six = and_parts (seals_so (at_line chronicle line.line) line.verb group.answer) (in_line next lines groups) five.1 in
-    ((p.0.0, p.0.1, p.0.2, eqb-true group.line line.line one.0, tells_so group.events group.answer two.0, hands_none (at_line chronicle line.line) line.verb group.events group.answer three.0 (sealed_so (at_line chronicle line.line) line.verb group.answer six.0), asked_so line.verb group.events group.answer four.0, d.0, h.0, s.0, breaks_so (at_line chronicle line.line) line.verb group.events five.0, e.0), whole_left next lines groups six.1 p.1 d.1 h.1 s.1 e.1)
+    let six = and_parts (are_plain (at_line chronicle line.line) line.verb group.events) (in_line next lines groups) five.1 in
+    ((p.0.0, p.0.1, p.0.2, eqb-true group.line line.line one.0, tells_so group.events group.answer two.0, hands_plain (at_line chronicle line.line) line.verb group.events group.answer three.0 six.0, asked_so line.verb group.events group.answer four.0, d.0, h.0, s.0, breaks_so (at_line chronicle line.line) line.verb group.events five.0, e.0), whole_left next lines groups six.1 p.1 d.1 h.1 s.1 e.1)
 
 pub whole_stored : (chronicle : Chronicle) (script : List ScriptLine) (told : List Group) → in_order chronicle script told ≡ true → AreParts chronicle script told → AreHeard chronicle script told → AreStored told → Ended chronicle script told → LawfulGroups chronicle script told
 whole_stored chronicle script told o p h s e = let two = and_parts (in_line chronicle script told) _ o in let three = and_parts (all_done script told) (dials_none script) two.1 in whole_left chronicle script told two.0 p (all_left chronicle script told three.0) h s (ended_so chronicle script told three.1 p e)

@@ -1,6 +1,6 @@
 -- which prepare is the one that is awaited, and who awaits its own, judged by hand
-use Rattle.std.specs.Prelude.{◌≡◌, ◌≢◌, ◌∷◌, ◌==◌, if◌then◌else◌}
-use Rattle.transcript_law.proofs.Words.{ℕ, Bool, true, false, List, [], refl, ap, sym, ◌∙◌, subst, inl, inr, ⊎_elim, arith, eqb-true, Option, Some, None, Ok, AreFollowed, Chronicle, Pend, Plain, PlainNode, Role, States, Write, empty_world, is_active}
+use Rattle.std.specs.Prelude.{◌≡◌, ◌≢◌, ◌<◌, ◌∷◌, ◌==◌, if◌then◌else◌}
+use Rattle.transcript_law.proofs.Words.{ℕ, Bool, true, false, List, [], refl, ap, sym, ◌∙◌, subst, inl, inr, ⊎_elim, arith, eq-eqb, eqb-true, Option, Some, None, Ok, AreFollowed, Chronicle, Pend, Plain, PlainNode, Role, States, Write, empty_world, is_active}
 use Rattle.client_session.specs.declared.session.Awaited.{Awaited}
 use Rattle.durability.specs.Laws.{Waits}
 use Rattle.durability.specs.declared.waiting.Waiting.{Waiting}
@@ -9,7 +9,7 @@ use Rattle.mcbp_kv.specs.declared.durable.Durability.{Durability}
 use Rattle.mcbp_kv.specs.declared.request.KvRequest.TheVariants as request
 use Rattle.node_core.specs.Clients.{PlainClient}
 use Rattle.transcript_law.proofs.rows.WaitRows.{no_one}
-use Rattle.transcript_law.specs.{LinesTold.{LastLine}, OwnWaits.{AllAwaitTheirOwn, AwaitTheirOwnIf, AwaitsItsOwn, IsEntryOf, IsTheOneAt, another_waits, one_node, two_states, waits_alone}, Questions.{Question, question_of}, StreamsTold.{Asking}, Waits.{one_waits, with_only, with_waiting}}
+use Rattle.transcript_law.specs.{LinesTold.{LastLine}, Feeding.{client_in}, OwnWaits.{AllAwaitTheirOwn, AwaitTheirOwnIf, AwaitsItsOwn, IsEntryOf, IsTheOneAt, another_waits, node_alone, one_node, two_states, vbs_of, waits_alone}, Questions.{Question, question_of}, StreamsTold.{Asking}, Waits.{one_waits, with_one_at, with_only, with_waiting}}
 use Rattle.vb_calls.specs.{Durable.{is_delete}, State.{pending_of}}
 use Rattle.vb_types.specs.declared.write.Op.TheVariants as op
 
@@ -100,6 +100,15 @@ module _ (vb : Plain) (write : Write) where
   pub value : (pend : Pend) → pending_of vb write.key ≡ Some pend → pend.doc.value ≢ write.value → IsTheOneAt 7 (two_states (waits_alone vb 7) None) 0 write → ⊥
   value pend there differs f = differs (ap (λ (p : Pend). p.doc.value) (pend_is pend there f) ∙ f.own.value)
 
+  pub flags : (pend : Pend) → pending_of vb write.key ≡ Some pend → pend.doc.flags ≢ write.flags → IsTheOneAt 7 (two_states (waits_alone vb 7) None) 0 write → ⊥
+  flags pend there differs f = differs (ap (λ (p : Pend). p.doc.flags) (pend_is pend there f) ∙ f.own.flags)
+
+  pub expiry : (pend : Pend) → pending_of vb write.key ≡ Some pend → pend.doc.expiry ≢ write.expiry → IsTheOneAt 7 (two_states (waits_alone vb 7) None) 0 write → ⊥
+  expiry pend there differs f = differs (ap (λ (p : Pend). p.doc.expiry) (pend_is pend there f) ∙ f.own.expiry)
+
+  pub datatype : (pend : Pend) → pending_of vb write.key ≡ Some pend → pend.doc.datatype ≢ write.datatype → IsTheOneAt 7 (two_states (waits_alone vb 7) None) 0 write → ⊥
+  datatype pend there differs f = differs (ap (λ (p : Pend). p.doc.datatype) (pend_is pend there f) ∙ f.own.datatype)
+
   pub removes : (pend : Pend) → pending_of vb write.key ≡ Some pend → pend.deleted ≡ true → write.op ≡ op.Set → IsTheOneAt 7 (two_states (waits_alone vb 7) None) 0 write → ⊥
   removes pend there gone set f = let z : true ≡ false = sym gone ∙ ap (λ (p : Pend). p.deleted) (pend_is pend there f) ∙ f.own.deleted ∙ ap is_delete set in cc
 
@@ -128,12 +137,28 @@ module _ (asking : Asking) (a : Awaited) (states : States) where
       let z : Some q ≡ Some f.question = sym next ∙ f.next in let same : q ≡ f.question = cc in
       let k : Ok (request.Write write None) ≡ Ok (request.Write f.write (Some f.wish)) = sym asks ∙ ap (λ (x : Question). request_of asking.settings.json x.frame) same ∙ f.asks in cc
 
+-- the vBucket that the question names has none
+pub elsewhere_named : (asking : Asking) (q : Question) (a : Awaited) (vb : Plain) → question_of asking ≡ Some q → q.frame.vb_or_status ≡ 1 → AwaitsItsOwn asking a (two_states (waits_alone vb a.waiter) None) → ⊥
+elsewhere_named asking q a vb next one f =
+    let z : Some q ≡ Some f.question = sym next ∙ f.next in let same : q ≡ f.question = cc in
+    let at : f.question.frame.vb_or_status ≡ 1 = ap (λ (x : Question). x.frame.vb_or_status) (sym same) ∙ one in
+    let there : two_states (waits_alone vb a.waiter) None 1 ≡ Some f.one.vb = subst (λ v. two_states (waits_alone vb a.waiter) None v ≡ Some f.one.vb) at f.one.there in
+    let k : None ≡ Some f.one.vb = there in cc
+
 module _ (told : Chronicle) where
   pub none_await : AllAwaitTheirOwn told empty_world
   none_await n c client a lt is has = absurd (cc is)
 
   pub nowhere : (node : PlainNode) (client : PlainClient) (a : Awaited) → client.session.awaited ≡ Some a → AllAwaitTheirOwn told (one_node (with_only node client None)) → ⊥
   nowhere node client a has all = let f = all 0 0 client a (omega arith) refl has in no_one node client f.question.frame.vb_or_status f.one.vb f.one.there
+
+  -- so it is of each connection of each node
+  pub any_await : (node : PlainNode) (client : PlainClient) (a : Awaited) (n c : ℕ) → c < 1000 → client.session.awaited ≡ Some a → AllAwaitTheirOwn told (node_alone n (with_one_at node c client)) → ⊥
+  any_await node client a n c low has all =
+      let there : (node_alone n (with_one_at node c client)).nodes n ≡ Some (with_one_at node c client) = ap (λ b. if b then Some (with_one_at node c client) else None) (eq-eqb n n refl) in
+      let open_there : client_in ((node_alone n (with_one_at node c client)).nodes n) c ≡ Some client = ap (λ o. client_in o c) there ∙ ap (λ b. if b then Some client else None) (eq-eqb c c refl) in
+      let f = all n c client a low open_there has in
+      let z : None ≡ Some f.one.vb = sym (ap (λ o. vbs_of o f.question.frame.vb_or_status) there) ∙ f.one.there in cc
 
   pub rises : (line : LastLine) (node : PlainNode) (client : PlainClient) (a : Awaited) → client.session.awaited ≡ Some a → AwaitTheirOwnIf (Some line) told (one_node (with_only node client None)) → ⊥
   rises line node client a has all = nowhere node client a has all

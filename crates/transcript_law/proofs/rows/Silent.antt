@@ -89,6 +89,8 @@ line_silent r (event.Item (name.Client n c) seq act key) silent = put_silent r.c
 line_silent r (event.Item (name.Link l) seq act key) silent = silent
 line_silent r (event.Finished (name.Client n c) reason) silent = put_silent r.clients_at n c _ silent (silent n c)
 line_silent r (event.Finished (name.Link l) reason) silent = silent
+line_silent r (event.Stated (name.Client n c) role) silent = silent
+line_silent r (event.Stated (name.Link l) role) silent = silent
 line_silent r other silent = silent
 
 pub lines_silent : (r : Chronicle) (lines : List Event) → Silent r.clients_at → Silent (after_lines r lines).clients_at

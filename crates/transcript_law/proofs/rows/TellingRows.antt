@@ -2,6 +2,8 @@
 use Rattle.std.specs.Prelude.{◌≡◌, ◌==◌, ◌∷◌}
 use Rattle.transcript_law.proofs.Words.{ℕ, Bool, true, false, [], refl, sym, ◌∙◌, arith, ⊎_elim, and_parts, eqb-true, Option, Some, None, Chronicle, Event, LinkVerb, NodeVerb, Verb, VbVerb}
 use Rattle.transcript_law.proofs.rows.{Silent.{shut_heard}, Ended.{one_cut}, Groups.{in_place, Told, whole}}
+use Rattle.transcript_law.proofs.lines.Takeovers.{plain_for}
+use Rattle.transcript_law.specs.Takeovers.{IsPlainFor}
 use Rattle.transcript_law.proofs.verbs.{Handing.{tells_of}, Tellings.{tell_first, tell_second}}
 use Rattle.transcript_law.specs.BoundRows.{LawfulHere, one_dialed}
 use Rattle.transcript_law.specs.Chronicles.{at_line}
@@ -16,11 +18,16 @@ use Rattle.vb_types.specs.declared.stream.StreamAsk.{StreamAsk}
 never : {a : Bool} → a ≡ false → a ≡ true → ⊥
 never fails holds = let z : false ≡ true = sym fails ∙ holds in cc
 
+-- the number of a line tells nothing of links
+plain_at : (r : Chronicle) (asked : Verb) → IsPlainFor r asked → IsPlainFor (at_line r 1) asked
+plain_at r (Verb.AtLink l what) plain = plain
+plain_at r other plain = tt
+
 -- whatever was read, the line may not tell so, nor may it where its node stopped, if it may tell that
 pub may_not_behind : (asked : Verb) (wrong : Event) → ((chronicle : Chronicle) → may_tell chronicle asked wrong ≡ false) → ((chronicle : Chronicle) (m : ℕ) → may_tell chronicle asked (Event.NodeStopped m) ≡ true → is_of_end chronicle m wrong ≡ true → ⊥) → MayNotTell asked wrong
 may_not_behind asked wrong strange behind = record {
-  first = λ chronicle lines said l. let r : Chronicle = at_line chronicle 1 in never (strange r) (tell_first (may_tell r asked) (is_of_end r) wrong lines (tells_of r asked (wrong ∷ lines) said l.0.5));
-  later = λ chronicle before lines said l. let r : Chronicle = at_line chronicle 1 in ⊎_elim (λ may. never (strange r) may) (λ ended. behind r ended.0 ended.1 ended.2) (tell_second (may_tell r asked) (is_of_end r) before wrong lines (tells_of r asked (before ∷ wrong ∷ lines) said l.0.5));
+  first = λ chronicle lines said plain l. let r : Chronicle = at_line chronicle 1 in never (strange r) (tell_first (may_tell r asked) (is_of_end r) wrong lines (tells_of r asked (wrong ∷ lines) said (plain_at chronicle asked plain) l.0.5));
+  later = λ chronicle before lines said plain l. let r : Chronicle = at_line chronicle 1 in ⊎_elim (λ may. never (strange r) may) (λ ended. behind r ended.0 ended.1 ended.2) (tell_second (may_tell r asked) (is_of_end r) before wrong lines (tells_of r asked (before ∷ wrong ∷ lines) said (plain_at chronicle asked plain) l.0.5));
 }
 
 -- what ends with no node
@@ -41,12 +48,12 @@ link_never l what wrong strange goes_on = may_never (Verb.AtLink l what) wrong (
 
 -- where the link 1 is dialed
 pub not_first : (asked : Verb) (wrong : Event) → may_tell (at_line one_dialed 1) asked wrong ≡ false → NotFirst asked wrong
-not_first asked wrong fails lines said l = let r : Chronicle = at_line one_dialed 1 in never fails (tell_first (may_tell r asked) (is_of_end r) wrong lines (tells_of r asked (wrong ∷ lines) said l.0.5))
+not_first asked wrong fails lines said l = let r : Chronicle = at_line one_dialed 1 in never fails (tell_first (may_tell r asked) (is_of_end r) wrong lines (tells_of r asked (wrong ∷ lines) said (plain_for r asked (λ k. refl)) l.0.5))
 
 -- and a node stopped
 pub not_behind_stop : (asked : Verb) (n : ℕ) (wrong : Event) → is_of_end (at_line one_dialed 1) n wrong ≡ false → NotBehindStop asked n wrong
 not_behind_stop asked n wrong fails lines said l =
-    let r : Chronicle = at_line one_dialed 1 in let stop = and_parts (may_tell r asked (Event.NodeStopped n)) (are_all (is_of_end r n) (wrong ∷ lines)) (tells_of r asked (Event.NodeStopped n ∷ wrong ∷ lines) said l.0.5) in never fails (and_parts (is_of_end r n wrong) (are_all (is_of_end r n) lines) stop.1).0
+    let r : Chronicle = at_line one_dialed 1 in let stop = and_parts (may_tell r asked (Event.NodeStopped n)) (are_all (is_of_end r n) (wrong ∷ lines)) (tells_of r asked (Event.NodeStopped n ∷ wrong ∷ lines) said (plain_for r asked (λ k. refl)) l.0.5) in never fails (and_parts (is_of_end r n wrong) (are_all (is_of_end r n) lines) stop.1).0
 
 -- ---- clients of other nodes, and other clients
 

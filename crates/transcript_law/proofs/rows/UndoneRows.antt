@@ -14,6 +14,7 @@ use Rattle.vb_events.specs.declared.event.StreamName.TheVariants as name
 use Rattle.vb_events.specs.declared.event.Why.TheVariants as why
 use Rattle.transcript_law.specs.Followers.{after_both, next_change}
 use Rattle.transcript_law.specs.UndoneRows.{DownLeavesNone, LawfulPump, LawfulTake, acknowledged_too, change_got, next_marker, prepare_got, prepare_held, prepare_marked, prepare_saved, prepare_sent, granted_both, lost, puts_end, puts_first, puts_half, puts_none, regot, stands_to, takes_none, takes_to}
+use Rattle.transcript_law.proofs.verbs.Handing.{hands_plain}
 
 -- the second change is held, and was not taken
 pub both_left : LawfulTake after_both takes_none → ⊥
@@ -57,7 +58,7 @@ all_put = (
     refl,
     refl,
     λ w no standing. cc,
-    refl,
+    hands_plain _ _ _ _ refl refl,
     tt,
     put_whole (after_lines (at_line granted_both 1) both_sent_lines) (streamed (begun 0 2 (first_item ∷ next_item ∷ []))) refl refl (record { whole = (first_item ∷ [], next_item, refl, refl); active = refl; none = inl (omega arith) }),
     λ n c opens. cc,
@@ -76,7 +77,7 @@ put_before = (
     refl,
     refl,
     λ w no standing. refl,
-    refl,
+    hands_plain _ _ _ _ refl refl,
     tt,
     all_put_by (at_line after_both 1) 1 own_dial ((at_line after_both 1).stream_of (name.Link 1) 0) refl refl (λ g is over.
         let one : _ ≡ g = some_one is in subst (HasNoMore (at_line after_both 1) 0 0) one (record { whole = (first_item ∷ [], next_item, refl, refl); active = refl; none = inl (omega arith) })),
@@ -116,7 +117,7 @@ ended = (
     refl,
     refl,
     λ w no standing. cc,
-    refl,
+    hands_plain _ _ _ _ refl refl,
     tt,
     all_put_by (after_lines (at_line (after_both_dead after_both) 1) puts_end.0) 1 own_dial ((after_lines (at_line (after_both_dead after_both) 1) puts_end.0).stream_of (name.Link 1) 0) refl refl (λ g is over. absurd (ended_over g is over)),
     λ n c opens. cc,

@@ -39,6 +39,7 @@ module _ (r : Chronicle) (n c : ℕ) where
   put_are (Event.Marked s start end flags ∷ lines) a = are_cons (is_of_pull n c) (Event.Marked s start end flags) lines (named (λ s. Event.Marked s start end flags) s a.0 (same_place n c)) (put_are lines a.1)
   put_are (Event.Item s seq act key ∷ lines) a = are_cons (is_of_pull n c) (Event.Item s seq act key) lines (named (λ s. Event.Item s seq act key) s a.0 (same_place n c)) (put_are lines a.1)
   put_are (Event.Finished s reason ∷ lines) a = are_cons (is_of_pull n c) (Event.Finished s reason) lines (named (λ s. Event.Finished s reason) s a.0 (same_place n c)) (put_are lines a.1)
+  put_are (Event.Stated s role ∷ lines) a = are_cons (is_of_pull n c) (Event.Stated s role) lines (named (λ s. Event.Stated s role) s a.0 (same_place n c)) (put_are lines a.1)
   put_are (Event.Reply m d bytes ∷ lines) a = are_cons (is_of_pull n c) (Event.Reply m d bytes) lines (λ i. eq-eqb m n a.0.0 i && eq-eqb d c a.0.1 i) (put_are lines a.1)
   put_are (other ∷ lines) a = absurd a.0
 

@@ -97,7 +97,7 @@ module _ (w : PlainWorld) (r : Chronicle) (a : Agrees w r) (l : ℕ) where
   pump_tells frames = on_open (LinkVerb.Pump frames) producer_node (pump_at frames) (λ link is e node at.
       tell_all (is_of_pump l) (is_of_end r) (λ m e. cc) (pump_at frames link node).1.1.events
       (pump_so (is_of_pump l) link.server.desk (λ start end flags. passes link is e (λ s. is_of_pump l (Event.Marked s start end flags)) (eq-eqb l l refl))
-      (λ c. passes link is e (λ s. is_of_pump l (Event.Item s c.seq (act_sent c.act) c.key)) (eq-eqb l l refl)) (λ reason. passes link is e (λ s. is_of_pump l (Event.Finished s reason)) (eq-eqb l l refl)) frames link node refl))
+      (λ c. passes link is e (λ s. is_of_pump l (Event.Item s c.seq (act_sent c.act) c.key)) (eq-eqb l l refl)) (λ reason. passes link is e (λ s. is_of_pump l (Event.Finished s reason)) (eq-eqb l l refl)) (λ told. passes link is e (λ s. is_of_pump l (Event.Stated s told)) (eq-eqb l l refl)) frames link node refl))
 
   cut_tells : Tells (r.dial_of l) LinkVerb.Cut (cut_step w l).1.events
   cut_tells = by (row_at link_number l w.links) refl

@@ -9,7 +9,7 @@ use Rattle.transcript_law.proofs.{invariant.Carrying.{Relinked}, invariant.OneLi
 use Rattle.transcript_law.proofs.invariant.LinkRows.{found_is_link, put_same}
 use Rattle.transcript_law.proofs.links.PumpWorlds.{pumped, SoFar, TurnSoFar, TurnsSoFar}
 use Rattle.transcript_law.proofs.links.Turns.{turn}
-use Rattle.transcript_law.proofs.verbs.NodeLines.{as_told, on_link_goes, node_of_same_vbs}
+use Rattle.transcript_law.proofs.verbs.NodeLines.{as_told, on_link_by, on_link_goes, node_of_same_vbs}
 
 module _ (takes : TakesSnapshots) where
   module _ (w : PlainWorld) (r : Chronicle) (link : PlainLink) (node : PlainNode) (found : row_at link_number (link_number link) w.links ≡ Some link) where
@@ -44,7 +44,15 @@ module _ (takes : TakesSnapshots) where
 
     idles : (states : States) (x : Turn Pulling (Served × Halt)) → TurnSoFar w r l link node states x → Idles (known_of (after (pulled x) states))
     idles states (More p) g n e = cc
-    idles states (Stop stopped) g n e = let idle : why_of stopped.1 ≡ Why.Idle = cc in g.1 idle
+    idles states (Stop stopped) g n e = let idle : why_of stopped.1 ≡ Why.Idle = cc in g.1.0 idle
+
+    -- none waits for the answer to a state
+    abbrev Rests : States × PullResult → Type 0
+    Rests y = (n : ℕ) → y.1.answer ≡ Answer.Pulled n Why.WaitState → ⊥
+
+    rests : (states : States) (x : Turn Pulling (Served × Halt)) → TurnSoFar w r l link node states x → Rests (known_of (after (pulled x) states))
+    rests states (More p) g n e = cc
+    rests states (Stop stopped) g n e = let state : why_of stopped.1 ≡ Why.WaitState = cc in g.1.1 state
 
     module _ (a : Agrees w r) (known : w.nodes (producer_node link) ≡ Some node) where
       abbrev first : Served
@@ -80,6 +88,18 @@ module _ (takes : TakesSnapshots) where
           subst Idles
           (sym (after_bind (frames_put frames first) (λ put. Done (pull_result link.up_heard put)) node.vbs ∙ ap known_of (after_bind (repeated frames one_frame (pull_of first none_quiet)) pulled node.vbs)))
           (idles x.0 x.1 (turns frames node.vbs first first_so_far))
+
+      node_rests : (frames : ℕ) → Rests (after (peer_pulled frames (peer_of link)) node.vbs)
+      unfolding frames_put
+      node_rests frames =
+          let x = after (repeated frames one_frame (pull_of first none_quiet)) node.vbs in
+          subst Rests
+          (sym (after_bind (frames_put frames first) (λ put. Done (pull_result link.up_heard put)) node.vbs ∙ ap known_of (after_bind (repeated frames one_frame (pull_of first none_quiet)) pulled node.vbs)))
+          (rests x.0 x.1 (turns frames node.vbs first first_so_far))
+
+  -- none waits for the answer to a state
+  pub pump_rests : (w : PlainWorld) (r : Chronicle) (l frames n : ℕ) → Agrees w r → (on_link w l producer_node (pump_at frames)).1.answer ≡ Answer.Pulled n Why.WaitState → ⊥
+  pump_rests w r l frames n a = on_link_by (λ x. x.1.answer ≡ Answer.Pulled n Why.WaitState → ⊥) w l producer_node (pump_at frames) (λ z. cc) (λ link found z. cc) (λ link node found known. node_rests w r link node found a known frames n)
 
   -- a line `pump`
   pub pump_goes : (w : PlainWorld) (r : Chronicle) (l frames : ℕ) → Agrees w r → GoesOn r as_told (on_link w l producer_node (pump_at frames))

@@ -3,7 +3,8 @@ use Rattle.std.specs.Prelude.{◌≡◌, ◌<◌, ◌≤◌, ◌∷◌}
 use Rattle.transcript_law.proofs.Words.{ℕ, Bool, true, false, List, [], length, refl, ap, sym, ◌∙◌, subst, arith, nat_tests, Option, Some, None, cond, is_some, Answer, Cause, Chronicle, ClientVerb, Event, LinkVerb, Plain, PlainNode, PlainWorld, Span, States, Verb, VbCall, VbVerb, Why}
 use Rattle.transcript_law.proofs.Words.{after_job, after_lines, call_at, list_any, on_node, rises_in, take_snapshots, verb_step, with_vb_at, IsIn, stays, wholes}
 use Rattle.transcript_law.proofs.{disks.Flushed.{flush_came}, invariant.Agreement.{Agrees, VbAgrees, all_rise}, invariant.JobSteps.{call_on, put_found}, invariant.Ranged.{IsRanged, NodeRanged, NodeRangedIf}, invariant.Seats.{seat}}
-use Rattle.transcript_law.proofs.{verbs.FlushLines.{There, disk, mine, some, there_at_vb}, verbs.NodeLines.{on_node_by}, verbs.DownLine.{down_leaves}, verbs.Pumping.{pump_leaves}, verbs.Settling.{steady}}
+use Rattle.transcript_law.proofs.{verbs.FlushLines.{There, disk, mine, some, there_at_vb}, verbs.NodeLines.{on_node_by}, verbs.DownLine.{down_leaves}, verbs.Pumping.{pump_leaves}, verbs.Settling.{steady}, verbs.Unstated.{no_states}}
+use Rattle.transcript_law.specs.TakeoverAnswers.{StateAwaited}
 use Rattle.transcript_law.specs.Undone.{AllTaken, IsShutFor, LeavesNone, NoneToAcknowledge, NoneToPut, NoneToTake, WaitsForOne, is_taking}
 use Rattle.{node_core.specs.Flushing.{flush_if, flush_result}, node_world.specs.Nodes.{flush_line}, std.specs.List.{find}, std.specs.Prelude.{nat_lt}}
 use Rattle.vb_calls.specs.{Flushes.{batch_of_reply, take_job, taken_job, took}, Flushing.{batch_of, flush_from, unflushed_span}, Jobs.{Ended}, Shelves.{Flush, Idle, Out, Written, Shelves, with_shelf_at}, Spans.{all_spans}}
@@ -68,12 +69,13 @@ take_leaves w r n v ranged a = on_node_by (λ x. x.1.answer ≡ Answer.Number 0 
         came_none w r n v t (subst (NodeRangedIf n) t.at (ranged n)) t.shelf.flush refl (sym (ap (λ y. y.1.answer) (flush_came n v part.Take node.vbs node.shelves vb (Some t.shelf) e t.kept)) ∙ z)
 
 -- of each line
-by_answer : (r : Chronicle) (line : Verb) (lines : List Event) (said : Answer) → (said ≡ Answer.Number 0 → NoneToTake r line) → ((n : ℕ) → said ≡ Answer.Number n → list_any is_taking lines ≡ true → NoneToAcknowledge (after_lines r lines) line) → ((n : ℕ) → said ≡ Answer.Pulled n Why.Idle → NoneToPut (after_lines r lines) line) → ((n : ℕ) → said ≡ Answer.Pulled n Why.WaitSaved → WaitsForOne (after_lines r lines) line) → ((n : ℕ) → said ≡ Answer.Pulled n Why.Full → IsShutFor (after_lines r lines) line) → LeavesNone r line lines said
-by_answer r line lines (Answer.Number n) taken acked put waits full = (λ z. taken (ap Answer.Number z), acked n refl)
-by_answer r line lines (Answer.Pulled n Why.Idle) taken acked put waits full = put n refl
-by_answer r line lines (Answer.Pulled n Why.WaitSaved) taken acked put waits full = waits n refl
-by_answer r line lines (Answer.Pulled n Why.Full) taken acked put waits full = full n refl
-by_answer r line lines other taken acked put waits full = tt
+by_answer : (r : Chronicle) (line : Verb) (lines : List Event) (said : Answer) → (said ≡ Answer.Number 0 → NoneToTake r line) → ((n : ℕ) → said ≡ Answer.Number n → list_any is_taking lines ≡ true → NoneToAcknowledge (after_lines r lines) line) → ((n : ℕ) → said ≡ Answer.Pulled n Why.Idle → NoneToPut (after_lines r lines) line) → ((n : ℕ) → said ≡ Answer.Pulled n Why.WaitSaved → WaitsForOne (after_lines r lines) line) → ((n : ℕ) → said ≡ Answer.Pulled n Why.Full → IsShutFor (after_lines r lines) line) → ((n : ℕ) → said ≡ Answer.Pulled n Why.WaitState → StateAwaited r line lines) → LeavesNone r line lines said
+by_answer r line lines (Answer.Number n) taken acked put waits full states = (λ z. taken (ap Answer.Number z), acked n refl)
+by_answer r line lines (Answer.Pulled n Why.Idle) taken acked put waits full states = put n refl
+by_answer r line lines (Answer.Pulled n Why.WaitSaved) taken acked put waits full states = waits n refl
+by_answer r line lines (Answer.Pulled n Why.Full) taken acked put waits full states = full n refl
+by_answer r line lines (Answer.Pulled n Why.WaitState) taken acked put waits full states = states n refl
+by_answer r line lines other taken acked put waits full states = tt
 
 none_to_take : (w : PlainWorld) (number : ℕ) (line : Verb) (r : Chronicle) → IsRanged w → Agrees w r → (verb_step w number line).1.answer ≡ Answer.Number 0 → NoneToTake r line
 none_to_take w number (Verb.AtVb n v VbVerb.Take) r ranged a z = take_leaves w r n v ranged a z
@@ -97,4 +99,4 @@ shut_for w number (Verb.AtClient n c (ClientVerb.Pull frames)) r ranged a k z = 
 shut_for w number other r ranged a n z = tt
 
 pub leaves_none : (w : PlainWorld) (number : ℕ) (line : Verb) (r : Chronicle) → IsRanged w → Agrees w r → (let x = verb_step w number line in LeavesNone r line x.1.events x.1.answer)
-leaves_none w number line r ranged a = let x = verb_step w number line in by_answer r line x.1.events x.1.answer (none_to_take w number line r ranged a) (none_to_acknowledge w number line r a) (none_to_put w number line r ranged a) (waits_for_one w number line r ranged a) (shut_for w number line r ranged a)
+leaves_none w number line r ranged a = let x = verb_step w number line in by_answer r line x.1.events x.1.answer (none_to_take w number line r ranged a) (none_to_acknowledge w number line r a) (none_to_put w number line r ranged a) (waits_for_one w number line r ranged a) (shut_for w number line r ranged a) (no_states w number line r ranged a x.1.events)

@@ -5,6 +5,7 @@ use Rattle.script_text.specs.declared.verb.Verb.TheVariants as verb
 use Rattle.script_text.specs.declared.verb.VbVerb.TheVariants as vb_verb
 use Rattle.script_text.specs.declared.verb.NodeVerb.TheVariants as node_verb
 use Rattle.script_text.specs.declared.verb.ClientVerb.TheVariants as client_verb
+use Rattle.transcript_law.proofs.verbs.Handing.{hands_plain}
 use Rattle.transcript_law.proofs.bound.judged_down_lines.Goals as goal
 
 pub returns : goal.returns
@@ -32,9 +33,9 @@ returns c = record {
   producer = λ l v buffer. refused_for_one zero_down (verb.Link l 0 1 v buffer) (λ n c. refl) Cause.NodeDown Cause.UnknownNode tt tt refl refl refl;
   consumer = λ l v buffer. refused_for_one zero_down (verb.Link l 1 0 v buffer) (λ n c. refl) Cause.NodeDown Cause.UnknownNode tt tt refl refl refl;
   start = λ uuids. refused_for_one zero_down (verb.AtNode 1 (node_verb.Start uuids)) (λ n c. refl) Cause.NodeUp Cause.UnknownNode tt tt refl refl refl;
-  stops = λ call out. ((tt, tt, refl, refl, (λ w no standing. refl), refl, tt, tt, λ n k opens. cc, tt, tt, (tt, tt)), tt);
-  fails = λ call. ((tt, tt, refl, refl, (λ w no standing. refl), refl, tt, tt, λ n k opens. cc, tt, tt, (tt, tt)), tt);
-  other = ((tt, tt, refl, refl, (λ w no standing. refl), refl, tt, tt, λ n k opens. cc, tt, tt, (tt, tt)), tt);
-  other_link = ((tt, (refl, λ l. refl), refl, refl, (λ w no standing. refl), refl, tt, tt, λ n k opens. cc, tt, tt, (tt, tt)), tt);
-  other_crash = λ out. ((tt, (λ c. refl), refl, refl, (λ w no standing. refl), refl, tt, tt, λ n k opens. cc, tt, tt, ((λ l. refl), tt)), tt);
+  stops = λ call out. ((tt, tt, refl, refl, (λ w no standing. refl), hands_plain _ _ _ _ refl refl, tt, tt, λ n k opens. cc, tt, tt, (tt, tt)), tt);
+  fails = λ call. ((tt, tt, refl, refl, (λ w no standing. refl), hands_plain _ _ _ _ refl refl, tt, tt, λ n k opens. cc, tt, tt, (tt, tt)), tt);
+  other = ((tt, tt, refl, refl, (λ w no standing. refl), hands_plain _ _ _ _ refl refl, tt, tt, λ n k opens. cc, tt, tt, (tt, tt)), tt);
+  other_link = ((tt, (refl, λ l. refl), refl, refl, (λ w no standing. refl), hands_plain _ _ _ _ refl refl, tt, tt, λ n k opens. cc, tt, tt, (tt, tt)), tt);
+  other_crash = λ out. ((tt, (λ c. refl), refl, refl, (λ w no standing. refl), hands_plain _ _ _ _ refl refl, tt, tt, λ n k opens. cc, tt, tt, ((λ l. refl), tt)), tt);
 }

@@ -7,6 +7,7 @@ pub returns : goal.returns
 returns c = record {
   stands = refl;
   breaks = refl;
+  counted = refl;
   none = refl;
   answered = ((omega arith, λ e. cc, λ e. (refl, (refl, tt))), tt);
   passes = ((omega arith, λ e. cc, λ e. (refl, (refl, omega arith))), tt);

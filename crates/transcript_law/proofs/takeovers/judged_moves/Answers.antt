@@ -1,26 +1,40 @@
-use Rattle.std.specs.Prelude.{◌≡◌, ◌∷◌, ◌||◌}
-use Rattle.transcript_law.proofs.Words.{true, false, [], refl, inl, inr, ⊎_elim, Event, EndReason}
-use Rattle.transcript_law.proofs.rows.TakeoverRows.{answers_alone, gives_up_elsewhere, gives_up_in, gives_up_late, gives_up_other, gives_up_unstated, rises_other, rises_setting}
-use Rattle.transcript_law.specs.Followers.{marker_line}
-use Rattle.transcript_law.specs.TakeoverRows.{answers_at, heir_commit}
+use Rattle.std.specs.Prelude.{◌≡◌}
+use Rattle.transcript_law.proofs.Words.{true, false, ⊎_elim}
+use Rattle.transcript_law.proofs.rows.TakeoverRows.{answers_alone, gives_up, gives_up_again, gives_up_beside, gives_up_elsewhere, gives_up_half, gives_up_in, gives_up_late, gives_up_nobody, gives_up_other, gives_up_twice, gives_up_unheard, gives_up_unobeyed, gives_up_unstated, gives_up_untaken, pends_other, pends_short, pends_taking, pends_told, pends_untold, plain, rises_beside, rises_committing, rises_early, rises_failing_told, rises_making, rises_other, rises_setting, rises_taking, rises_told}
 use Rattle.transcript_law.proofs.takeovers.judged_moves.Goals as goal
 
 pub returns : goal.returns
 returns c = record {
-  gives_up = inr (record { told = answers_at 0 ∷ []; frames = marker_line 2 4 ∷ []; together = refl; active = refl; stated = refl; clients = refl; put = refl });
+  gives_up = gives_up;
   gives_up_unstated = gives_up_unstated;
+  gives_up_unobeyed = gives_up_unobeyed;
+  gives_up_unheard = gives_up_unheard;
+  gives_up_half = gives_up_half;
   gives_up_other = gives_up_other;
   gives_up_late = gives_up_late;
   gives_up_elsewhere = gives_up_elsewhere;
   gives_up_in = gives_up_in;
   answers_alone = answers_alone;
-  pends = inr (inl (record { front = []; behind = []; together = refl; taken = refl; goes_on = refl }));
-  rises = inr (inr (record { front = []; commits = heir_commit ∷ []; behind = []; together = refl; taken = refl; own = refl; goes_on = refl }));
-  rises_failing = inr (inr (record { front = []; commits = []; behind = Event.CallFailed 1 ∷ Event.Ended 1 EndReason.Disk ∷ []; together = refl; taken = refl; own = refl; goes_on = refl }));
+  pends = pends_told;
+  pends_untaken = pends_short;
+  rises = rises_told;
+  rises_failing = rises_failing_told;
   rises_other = rises_other;
+  rises_early = rises_early;
   rises_setting = rises_setting;
+  rises_taking = rises_taking;
+  rises_making = rises_making;
   up = λ l. ⊎_elim (λ t. let z : false ≡ true = t in cc) (λ x. x) l;
   cut = λ l. ⊎_elim (λ t. let z : false ≡ true = t in cc) (λ x. x) l;
-  none_given = λ t. let z : false ≡ true = t in cc;
-  none_taken = λ t. let z : false ≡ true = t in cc;
+  plain = plain;
+  gives_up_untaken = gives_up_untaken;
+  gives_up_nobody = gives_up_nobody;
+  pends_taking = pends_taking;
+  gives_up_again = gives_up_again;
+  gives_up_twice = gives_up_twice;
+  gives_up_beside = gives_up_beside;
+  pends_other = pends_other;
+  rises_committing = rises_committing;
+  rises_beside = rises_beside;
+  pends_unstated = pends_untold;
 }

@@ -1,4 +1,4 @@
-use Rattle.transcript_law.proofs.rows.OwnWaitRows.{apart, both, elsewhere, idle, key, later, nothing, one, other, removes, two, value}
+use Rattle.transcript_law.proofs.rows.OwnWaitRows.{apart, both, datatype, elsewhere, expiry, flags, idle, key, later, nothing, one, other, removes, two, value}
 use Rattle.transcript_law.proofs.waits.judged_own_prepares.Goals as goal
 
 pub returns : goal.returns
@@ -11,6 +11,9 @@ returns c = record {
   nothing = nothing;
   later = later;
   value = value;
+  flags = flags;
+  expiry = expiry;
+  datatype = datatype;
   removes = removes;
   two = λ vb second write f. two vb write second f;
   both = both;
