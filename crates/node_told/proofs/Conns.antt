@@ -1,5 +1,5 @@
 -- the calls of a node that are of a connection
-use Rattle.std.proofs.Common.{◌≡◌, ℕ, List, Option, Some, None, ap}
+use Rattle.std.proofs.Common.{◌≡◌, ◌∙◌, ℕ, List, Option, Some, None, ap}
 use Rattle.slab.specs.Slab.{get}
 use Rattle.mcbp_frame.specs.declared.frame.Frame.{Frame}
 use Rattle.vb_calls.specs.declared.calls.VbCall.{VbCall}
@@ -11,11 +11,13 @@ use Rattle.node_core.specs.declared.conn.Conn.TheVariants as conn
 use Rattle.node_core.specs.declared.node.Node.{Node}
 use Rattle.node_core.specs.declared.out.NodeOut.{NodeOut}
 use Rattle.node_core.specs.Clients.{Handling, ClientPulled, client_fed, client_posted, client_pulled}
+use Rattle.dcp_producer.specs.declared.yields.Yielded.{Yielded}
+use Rattle.node_core.specs.GivingUp.{GaveUpAt, ConnGaveUp, ConnUngiven, GiveResult, given_out, peer_gives_up}
 use Rattle.node_core.specs.Outcomes.{FedAt, ConnFed, ConnStopped, PostedAt, ConnPosted, ConnUnposted, AnsweredAt, ConnAnswered, ConnUnanswered, PulledAt, ConnPulled, ConnHalted}
 use Rattle.node_core.specs.Outs.{client_out, client_pull_out, peer_out, pull_out}
 use Rattle.node_core.specs.Peers.{PeerResult, PullResult, peer_answered, peer_pulled}
-use Rattle.node_told.specs.Told.{PieceTold, PieceBegan, OutcomeTold, OutcomeBegan, AnswerTold, AnswerBegan, PullTold, PullBegan}
-use Rattle.node_told.specs.Laws.{PiecesAreTold, OutcomesAreTold, AnswersAreTold, PullsAreTold, HearingCallsNothing}
+use Rattle.node_told.specs.Told.{PieceTold, PieceBegan, OutcomeTold, OutcomeBegan, AnswerTold, AnswerBegan, PullTold, PullBegan, YieldTold, YieldBegan}
+use Rattle.node_told.specs.Laws.{PiecesAreTold, OutcomesAreTold, AnswersAreTold, PullsAreTold, YieldsAreTold, HearingCallsNothing}
 use Rattle.node_told.proofs.Ran.{quiet, told, first}
 
 abbrev vbs_of : {W J : Type 0} → Node W J → W
@@ -66,6 +68,16 @@ module _ {W : Type 0} (step : W → ℕ → VbCall → Option VbReply → W → 
   halted frames (conn.Client kept) old new s = first step mine lists (client_pulled frames kept.plain) old new s.1
   halted frames (conn.Peer kept) old new s = first step mine lists (peer_pulled frames kept.plain) old new s.1
 
+  conn_gave : (number frames : ℕ) (found : Conn) (old : W) (given : List Yielded) (out : NodeOut) (left : Conn) (new : W) → ConnGaveUp step frames found old given left new → out ≡ given_out number given → YieldTold mine number frames (Some found) out old new
+  conn_gave number frames (conn.Client kept) old given out left new g said = (said ∙ ap (given_out number) g.1, quiet mine old new g.0)
+  conn_gave number frames (conn.Peer kept) old given out (conn.Peer left) new g said =
+      told step mine lists (peer_gives_up frames kept.plain) (λ (r : GiveResult). out ≡ given_out number r.given) old (record { peer = left.plain; given = given }) new g.2 said
+  conn_gave number frames (conn.Peer kept) old given out (conn.Client left) new g said = absurd g
+
+  ungiven : (frames : ℕ) (found : Conn) (old new : W) → ConnUngiven step frames found old new → YieldBegan mine frames found old new
+  ungiven frames (conn.Peer kept) old new s = first step mine lists (peer_gives_up frames kept.plain) old new s.1
+  ungiven frames (conn.Client kept) old new s = s
+
 module _ {W J : Type 0} (step : W → ℕ → VbCall → Option VbReply → W → Type 0) (mine : W → ℕ → List (VbCall × VbReply)) (lists : ListsCalls step mine) where
   fed : (clock key : ℕ) (piece : List ℕ) (found : Option Conn) (old : Node W J) (out : NodeOut) (new : Node W J) → FedAt step clock key piece found old out new → PieceTold mine clock piece found out old.vbs new.vbs
   fed clock key piece None old out new f = (f.0, quiet mine old.vbs new.vbs (ap vbs_of f.1))
@@ -105,4 +117,14 @@ module _ {W J : Type 0} (step : W → ℕ → VbCall → Option VbReply → W �
   pulls = record {
     pulled = λ frames key old out new p. pulled frames key (get old.conns key) old out new p;
     stopped = λ frames key old new s. (s.found, s.had, halted step mine lists frames s.found old.vbs new.vbs s.halted);
+  }
+
+  gave : (frames key : ℕ) (found : Option Conn) (old : Node W J) (out : NodeOut) (new : Node W J) → GaveUpAt step frames key found old out new → YieldTold mine old.number frames found out old.vbs new.vbs
+  gave frames key None old out new g = (g.0, quiet mine old.vbs new.vbs (ap vbs_of g.1))
+  gave frames key (Some found) old out new g = conn_gave step mine lists old.number frames found old.vbs g.given out g.left new.vbs g.gave g.said
+
+  pub yields : YieldsAreTold J step mine
+  yields = record {
+    given = λ frames key old out new g. gave frames key (get old.conns key) old out new g;
+    stopped = λ frames key old new s. (s.found, s.had, ungiven step mine lists frames s.found old.vbs new.vbs s.ungiven);
   }

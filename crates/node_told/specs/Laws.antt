@@ -18,9 +18,10 @@ use Rattle.node_core.specs.declared.out.NodeOut.{NodeOut}
 use Rattle.node_core.specs.Admin.{admin_job}
 use Rattle.node_core.specs.Dials.{KeptDial, dial_bytes}
 use Rattle.node_core.specs.Flushing.{flush_at}
+use Rattle.node_core.specs.GivingUp.{GaveUpAt, Ungiven}
 use Rattle.node_core.specs.Outcomes.{value_at, FedAt, Stopped, Heard, Unheard, PostedAt, Unposted, AnsweredAt, Unanswered, PulledAt, Halted, DialFedAt, DialStopped, Administered, Wrote, Made, HalfMade}
 use Rattle.node_core.specs.Outs.{refused_out, made_out, flush_out, dial_ended, admin_out}
-use Rattle.node_told.specs.Told.{FirstOfJob, ToldOfJob, Quiet, PieceTold, PieceBegan, OutcomeTold, OutcomeBegan, AnswerTold, AnswerBegan, PullTold, PullBegan, DialTold}
+use Rattle.node_told.specs.Told.{FirstOfJob, ToldOfJob, Quiet, PieceTold, PieceBegan, OutcomeTold, OutcomeBegan, AnswerTold, AnswerBegan, PullTold, PullBegan, YieldTold, YieldBegan, DialTold}
 
 module _ {W : Type 0} (J : Type 0) (mine : W → ℕ → List (VbCall × VbReply)) where
   -- bytes of a peer
@@ -48,6 +49,11 @@ module _ {W : Type 0} (J : Type 0) (step : W → ℕ → VbCall → Option VbRep
   pub record PullsAreTold : Type 0 where
     pub pulled : (frames key : ℕ) (old : Node W J) (out : NodeOut) (new : Node W J) → PulledAt step frames key (get old.conns key) old out new → PullTold mine frames (get old.conns key) out old.vbs new.vbs
     pub stopped : (frames key : ℕ) (old new : Node W J) → Halted step frames key old new → (found : Conn) × (get old.conns key ≡ Some found) × PullBegan mine frames found old.vbs new.vbs
+
+  -- vBuckets that are to be given up in front of a pull
+  pub record YieldsAreTold : Type 0 where
+    pub given : (frames key : ℕ) (old : Node W J) (out : NodeOut) (new : Node W J) → GaveUpAt step frames key (get old.conns key) old out new → YieldTold mine old.number frames (get old.conns key) out old.vbs new.vbs
+    pub stopped : (frames key : ℕ) (old new : Node W J) → Ungiven step frames key old new → (found : Conn) × (get old.conns key ≡ Some found) × YieldBegan mine frames found old.vbs new.vbs
 
 module _ {W J : Type 0} (step : W → ℕ → VbCall → Option VbReply → W → Type 0) (asks : J → ℕ → (ask : Ask) → Got ask → J → Type 0) (mine : W → ℕ → List (VbCall × VbReply)) where
   -- bytes of a dial's producer

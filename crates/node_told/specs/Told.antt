@@ -13,6 +13,7 @@ use Rattle.node_core.specs.declared.conn.Conn.TheVariants as conn
 use Rattle.node_core.specs.declared.out.NodeOut.{NodeOut}
 use Rattle.node_core.specs.Clients.{client_fed, client_posted, client_pulled}
 use Rattle.node_core.specs.Dials.{KeptDial, dial_bytes}
+use Rattle.node_core.specs.GivingUp.{given_out, peer_gives_up}
 use Rattle.node_core.specs.Outs.{refused_out, client_out, client_pull_out, peer_out, pull_out, dial_out}
 use Rattle.node_core.specs.Peers.{peer_answered, peer_pulled}
 
@@ -93,6 +94,16 @@ module _ {W : Type 0} (mine : W → ℕ → List (VbCall × VbReply)) where
   abbrev pub PullBegan : ℕ → Conn → W → W → Type 0
   PullBegan frames (conn.Client kept) old new = FirstOfProg (client_pulled frames kept.plain) old new
   PullBegan frames (conn.Peer kept) old new = FirstOfProg (peer_pulled frames kept.plain) old new
+
+  -- a connection of the node of this number was to give vBuckets up: a client's gives none up, and calls nothing. Where there is none, that is refused
+  abbrev pub YieldTold : ℕ → ℕ → Option Conn → NodeOut → W → W → Type 0
+  YieldTold number frames (Some (conn.Client kept)) out old new = (out ≡ given_out number []) × Quiet old new
+  YieldTold number frames (Some (conn.Peer kept)) out old new = ToldProg (peer_gives_up frames kept.plain) (λ told. out ≡ given_out number told.given) old new
+  YieldTold number frames None out old new = Refused out old new
+
+  abbrev pub YieldBegan : ℕ → Conn → W → W → Type 0
+  YieldBegan frames (conn.Client kept) old new = ⊥
+  YieldBegan frames (conn.Peer kept) old new = FirstOfProg (peer_gives_up frames kept.plain) old new
 
   -- a dial was given bytes. Where there is none, they are refused
   abbrev pub DialTold : List ℕ → Option KeptDial → NodeOut → W → W → Type 0

@@ -4,7 +4,7 @@ ghost use Rattle.std.specs.Prelude.{ℕ, List};
 ghost use Rattle.vb_calls.specs.declared.calls.VbCall.{VbCall};
 ghost use Rattle.vb_calls.specs.declared.calls.VbReply.{VbReply};
 ghost use Rattle.vb_told.specs.Laws.{ListsCalls, ListsNoMakes};
-ghost use Rattle.node_told.specs.Laws.{AnswersAreTold, DialsAreTold, FlushesAreTold, HearingCallsNothing, MakesAreTold, OperatorsAreTold, OutcomesAreTold, PiecesAreTold, PullsAreTold};
+ghost use Rattle.node_told.specs.Laws.{AnswersAreTold, DialsAreTold, FlushesAreTold, HearingCallsNothing, MakesAreTold, OperatorsAreTold, OutcomesAreTold, PiecesAreTold, PullsAreTold, YieldsAreTold};
 
 use vb_calls::{Journals, VbAccess};
 
@@ -32,6 +32,11 @@ pub fn outcomes_are_told<A: VbAccess, J: Journals>()
 /// `pull`: the same of frames of a connection's streams.
 pub fn pulls_are_told<A: VbAccess, J: Journals>()
     ensures { (mine : A → ℕ → List (VbCall × VbReply)) → ListsCalls A.step mine → PullsAreTold J A.step mine }
+{}
+
+/// `give_up`: the same of the vBuckets that a connection gives up, each of which is told dead.
+pub fn yields_are_told<A: VbAccess, J: Journals>()
+    ensures { (mine : A → ℕ → List (VbCall × VbReply)) → ListsCalls A.step mine → YieldsAreTold J A.step mine }
 {}
 
 /// `feed_dial`: a dial made its job's calls, with the replies that the lists gained and some answers of
