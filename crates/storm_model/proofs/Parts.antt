@@ -3,7 +3,8 @@ use Rattle.std.proofs.Common.{◌≡◌, ℕ, zero, suc, ◌+◌, ◌<◌, Bool,
 use Rattle.std.specs.Prelude.{◌==◌, nat_lt}
 use Rattle.std.proofs.lemmas.Bool.{eqb-true}
 use Rattle.std.proofs.lemmas.Bool.Decides.{nat_tests}
-use Rattle.storm_model.specs.Merging.{Stand, HasPlace, OnlyIn, times, PartHasAll}
+use Rattle.storm_model.specs.Merging.{Stand, HasPlace, OnlyIn, PartHasAll}
+use Rattle.vb_turn.specs.Turning.{times}
 
 below_one : (x n : ℕ) (b : Bool) → nat_lt x n ≡ b → x < n → ◌≡◌ {A = ℕ} (if b then 1 else 0) 1
 below_one x n true e l = refl

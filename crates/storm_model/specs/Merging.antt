@@ -1,6 +1,7 @@
 -- What one seat has of a history: its own entries, at rising places.
-use Rattle.std.specs.Prelude.{◌≡◌, ℕ, suc, ◌+◌, ◌≤◌, ◌==◌, nat_lt, if◌then◌else◌, Bool, true, List, [], ◌∷◌, length, map, Some, slice_get, ◌⊎◌}
+use Rattle.std.specs.Prelude.{◌≡◌, ℕ, suc, ◌≤◌, Bool, true, List, [], ◌∷◌, length, map, Some, slice_get, ◌⊎◌}
 use Rattle.std.specs.List.{filter}
+use Rattle.vb_turn.specs.Turning.{once_below, places, times}
 
 module _ {E : Type 0} where
   -- the places rise, from this one on
@@ -35,18 +36,9 @@ module _ {E : Type 0} where
 abbrev pub OwnOrder : (E : Type 0) → Type 0
 OwnOrder E = (is : E → Bool) (log : List E) (mine : List (ℕ × E)) → Rising 0 mine → Stand log mine → AllOf is log mine → filter is log ≡ filter is (entries mine)
 
--- how often x stands in the list
-abbrev pub times : ℕ → List ℕ → ℕ
-times x [] = 0
-times x (y ∷ ys) = (if x == y then 1 else 0) + times x ys
-
--- 1 where x is below n
-abbrev pub once_below : ℕ → ℕ → ℕ
-once_below x n = if nat_lt x n then 1 else 0
-
 -- the entries are all of the history, each once
 abbrev pub IsAll : {E : Type 0} → List (ℕ × E) → List E → Type 0
-IsAll mine log = (x : ℕ) → times x (map (λ m. m.0) mine) ≡ once_below x (length log)
+IsAll mine log = (x : ℕ) → times x (places mine) ≡ once_below x (length log)
 
 -- where the gathered entries are all of a history, and those of a kind are one part of them, that part has all of its kind
 abbrev pub PartHasAll : (E : Type 0) → Type 0
