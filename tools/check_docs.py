@@ -22,7 +22,7 @@ LINE, CELL = 100, 200
 # What grows with what it says is read by nobody: a page that says more says something else shorter.
 LENGTHS = {
     "README.md": 150,
-    "CHANGELOG.md": 160,
+    "CHANGELOG.md": 162,
     "docs/ARCHITECTURE.md": 350,
     "docs/GUARANTEES.md": 430,
     "docs/KV_ENGINE.md": 100,
