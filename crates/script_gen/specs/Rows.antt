@@ -60,7 +60,7 @@ one_write =
     ∷ line 3 (verb.AtVb 0 0 (vb_verb.MakeActive 1))
     ∷ line 4 (verb.AtVb 1 0 vb_verb.MakeReplica)
     ∷ line 5 (verb.AtClient 0 1 client_verb.Open)
-    ∷ line 6 (verb.Link 1 0 1 0 1000000)
+    ∷ line 6 (verb.Link 1 0 1 0 1000000 false)
     ∷ line 7 (verb.AtLink 1 (link_verb.Up 1000000000))
     ∷ line 8 (verb.AtClient 0 1 (client_verb.Bytes first_request))
     ∷ line 9 (verb.AtLink 1 (link_verb.Pump 1000000))

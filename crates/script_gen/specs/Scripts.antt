@@ -1,5 +1,5 @@
 -- generated scripts
-use Rattle.std.specs.Prelude.{◌≡◌, ℕ, zero, suc, ◌+◌, ◌%◌, ◌==◌, ◌||◌, if◌then◌else◌, List, [], ◌∷◌, ◌++◌, Option, Some, None}
+use Rattle.std.specs.Prelude.{◌≡◌, ℕ, zero, suc, ◌+◌, ◌%◌, ◌==◌, ◌||◌, if◌then◌else◌, false, List, [], ◌∷◌, ◌++◌, Option, Some, None}
 use Rattle.script_text.specs.declared.verb.Verb.{Verb}
 use Rattle.script_text.specs.declared.verb.Verb.TheVariants as verb
 use Rattle.script_text.specs.declared.verb.VbVerb.TheVariants as vb_verb
@@ -16,7 +16,7 @@ opening =
     ∷ verb.AtVb 0 0 (vb_verb.MakeActive 1)
     ∷ verb.AtVb 1 0 vb_verb.MakeReplica
     ∷ verb.AtClient 0 1 client_verb.Open
-    ∷ verb.Link 1 0 1 0 1000000
+    ∷ verb.Link 1 0 1 0 1000000 false
     ∷ verb.AtLink 1 (link_verb.Up 1000000000)
     ∷ []
 

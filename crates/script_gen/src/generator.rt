@@ -71,6 +71,7 @@ fn opening(at: usize) -> Option<Verb>
             to: 1,
             vb: 0,
             buffer: 1_000_000,
+            takeover: false,
         },
         6 => at_link(LinkVerb::Up { bytes: ALL }),
         _ => return None,

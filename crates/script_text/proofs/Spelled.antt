@@ -10,7 +10,7 @@ use Rattle.std.proofs.lemmas.List.Elements.{All-weaker, All-from_get_or}
 use Rattle.std.proofs.lemmas.List.Splits.{join_with_byte-slice_split}
 use Rattle.hex.specs.Hex.{decode_of, is_hex_digit}
 use Rattle.hex.proofs.HexLemmas.{decode_of-ok, decode_of-digits}
-use Rattle.script_text.specs.{Numbers.{number_of, node_of, vbucket_of, connection_of, moved_of, if_frames, frames_of, buffer_of}, Lines.{words_of}, Grammar.{if_decoded, hex_bytes_of, node_line, cut_line, two_words, clock_line, client_line, hang_line, up_line, down_line, pump_line, verb_of_vb, replica_line, vbucket_words, three_words, bytes_line, pull_line, promote_line, vbucket_of_four, plain_of_four, four_words, five_words, vb_line, is_link, linked, link_line, counted_verb, kept_of, filled_of, stop_line, fail_line, crash_line, start_line, branches_of, chain_words, verb_of}, Fitting.{AreBytes, VbFits, ClientFits}, Sayings.{IsHex, IsHexOf, Says, vb_word, vb_tail, client_word, ClientTail, link_words}, declared.numbers.TheConstants.{NODES, VBUCKETS, CONNECTIONS, FRAMES, BUFFERS}}
+use Rattle.script_text.specs.{Numbers.{number_of, node_of, vbucket_of, connection_of, moved_of, if_frames, frames_of, buffer_of}, Lines.{words_of}, Grammar.{if_decoded, hex_bytes_of, node_line, cut_line, two_words, clock_line, client_line, hang_line, up_line, down_line, pump_line, verb_of_vb, replica_line, vbucket_words, three_words, bytes_line, pull_line, promote_line, vbucket_of_four, plain_of_four, four_words, five_words, vb_line, link_mode, terms_in, linked, link_line, counted_verb, kept_of, filled_of, stop_line, fail_line, crash_line, start_line, branches_of, chain_words, verb_of}, Fitting.{AreBytes, VbFits, ClientFits}, Sayings.{IsHex, IsHexOf, Says, vb_word, vb_tail, client_word, ClientTail, link_words, mode_word}, declared.numbers.TheConstants.{NODES, VBUCKETS, CONNECTIONS, FRAMES, BUFFERS}}
 use Rattle.script_text.specs.declared.verb.{Verb.{Verb}, VbVerb.{VbVerb}, NodeVerb.{NodeVerb}, LinkVerb.{LinkVerb}, ClientVerb.{ClientVerb}}
 use Rattle.script_text.specs.declared.verb.Verb.TheVariants as verb
 use Rattle.script_text.specs.declared.verb.VbVerb.TheVariants as vb_verb
@@ -176,25 +176,40 @@ five_spelled word a b c d v h =
     by_word word (codes "stop") (a ++ 32 ∷ (b ++ 32 ∷ (c ++ 32 ∷ d))) (stop_line a b (filled_of c d)) (vb_line word a b c d) v
     (stop_spelled a b (c ++ 32 ∷ d) (filled_of c d) v (filled_spelled c d)) (vb_spelled word a b c d v) h
 
+mode_spelled : (f : List ℕ) (t : Bool) → link_mode f ≡ Some t → f ≡ mode_word t
+mode_spelled f t h =
+    elim (either (bytes_eq f (codes "follow")) (Some false) (if bytes_eq f (codes "takeover") then Some true else None) t h) [
+      | inl p ↦ let e : false ≡ t = cc p.1 in subst (λ t. f ≡ mode_word t) e (word_is f (codes "follow") p.0)
+      | inr more ↦
+          let yes = if_yes (bytes_eq f (codes "takeover")) (Some true) t more in
+          let e : true ≡ t = cc yes.1 in subst (λ t. f ≡ mode_word t) e (word_is f (codes "takeover") yes.0)
+    ]
+
+terms_spelled : (e f : List ℕ) (t : ℕ × Bool) → terms_in e f ≡ Some t → (e ≡ decimal t.0) × (t.0 < 2 ^ 32) × (f ≡ mode_word t.1)
+unfolding terms_in
+terms_spelled e f t h =
+    let buffer = chained (λ b. option_map (λ m. (b, m)) (link_mode f)) (buffer_of e) t h in
+    let mode = mapped (λ m. (buffer.0, m)) (link_mode f) t buffer.2 in
+    let z = number_below BUFFERS buffer.0 e buffer.1 in
+    subst (λ (t : ℕ × Bool). (e ≡ decimal t.0) × (t.0 < 2 ^ 32) × (f ≡ mode_word t.1)) {x = (buffer.0, mode.0)} mode.2 (z.0, z.1, mode_spelled f mode.0 mode.1)
+
 link_spelled : (word a b c d e f : List ℕ) (v : Verb) → link_line word a b c d e f ≡ Some v → Says (word ++ 32 ∷ (a ++ 32 ∷ (b ++ 32 ∷ (c ++ 32 ∷ (d ++ 32 ∷ (e ++ 32 ∷ f)))))) v
 link_spelled word a b c d e f v h =
-    let yes = if_yes (is_link word f) (linked a b c d e) v h in
-    let tests = both (bytes_eq word (codes "link")) (bytes_eq f (codes "follow")) yes.0 in
-    let link = chained (λ l. option_and_then (λ m. option_and_then (λ n. option_and_then (λ k. option_map (verb.Link l m n k) (buffer_of e)) (vbucket_of d)) (node_of c)) (node_of b)) (connection_of a) v yes.1 in
-    let producer = chained (λ m. option_and_then (λ n. option_and_then (λ k. option_map (verb.Link link.0 m n k) (buffer_of e)) (vbucket_of d)) (node_of c)) (node_of b) v link.2 in
-    let node = chained (λ n. option_and_then (λ k. option_map (verb.Link link.0 producer.0 n k) (buffer_of e)) (vbucket_of d)) (node_of c) v producer.2 in
-    let vb = chained (λ k. option_map (verb.Link link.0 producer.0 node.0 k) (buffer_of e)) (vbucket_of d) v node.2 in
-    let buffer = mapped (verb.Link link.0 producer.0 node.0 vb.0) (buffer_of e) v vb.2 in
+    let yes = if_yes (bytes_eq word (codes "link")) (linked a b c d (terms_in e f)) v h in
+    let link = chained (λ l. option_and_then (λ m. option_and_then (λ n. option_and_then (λ k. option_map (λ t. verb.Link l m n k t.0 t.1) (terms_in e f)) (vbucket_of d)) (node_of c)) (node_of b)) (connection_of a) v yes.1 in
+    let producer = chained (λ m. option_and_then (λ n. option_and_then (λ k. option_map (λ t. verb.Link link.0 m n k t.0 t.1) (terms_in e f)) (vbucket_of d)) (node_of c)) (node_of b) v link.2 in
+    let node = chained (λ n. option_and_then (λ k. option_map (λ t. verb.Link link.0 producer.0 n k t.0 t.1) (terms_in e f)) (vbucket_of d)) (node_of c) v producer.2 in
+    let vb = chained (λ k. option_map (λ t. verb.Link link.0 producer.0 node.0 k t.0 t.1) (terms_in e f)) (vbucket_of d) v node.2 in
+    let terms = mapped (λ (t : ℕ × Bool). verb.Link link.0 producer.0 node.0 vb.0 t.0 t.1) (terms_in e f) v vb.2 in
     let l = number_below CONNECTIONS link.0 a link.1 in
     let m = number_below NODES producer.0 b producer.1 in
     let n = number_below NODES node.0 c node.1 in
     let k = number_below VBUCKETS vb.0 d vb.1 in
-    let z = number_below BUFFERS buffer.0 e buffer.1 in
-    let w = word_is word (codes "link") tests.0 in
-    let g = word_is f (codes "follow") tests.1 in
-    let made = verb.Link link.0 producer.0 node.0 vb.0 buffer.0 in
-    subst (λ v. Says (word ++ 32 ∷ (a ++ 32 ∷ (b ++ 32 ∷ (c ++ 32 ∷ (d ++ 32 ∷ (e ++ 32 ∷ f)))))) v) {x = made} buffer.2
-    ((l.1, m.1, n.1, k.1, z.1), λ i. w i ++ 32 ∷ (l.0 i ++ 32 ∷ (m.0 i ++ 32 ∷ (n.0 i ++ 32 ∷ (k.0 i ++ 32 ∷ (z.0 i ++ 32 ∷ g i))))))
+    let z = terms_spelled e f terms.0 terms.1 in
+    let w = word_is word (codes "link") yes.0 in
+    let made = verb.Link link.0 producer.0 node.0 vb.0 terms.0.0 terms.0.1 in
+    subst (λ v. Says (word ++ 32 ∷ (a ++ 32 ∷ (b ++ 32 ∷ (c ++ 32 ∷ (d ++ 32 ∷ (e ++ 32 ∷ f)))))) v) {x = made} terms.2
+    ((l.1, m.1, n.1, k.1, z.1), λ i. w i ++ 32 ∷ (l.0 i ++ 32 ∷ (m.0 i ++ 32 ∷ (n.0 i ++ 32 ∷ (k.0 i ++ 32 ∷ (z.0 i ++ 32 ∷ z.2 i))))))
 
 counted_spelled : (words : List (List ℕ)) (v : Verb) → counted_verb words ≡ Some v → Says (join_with_byte 32 words) v
 counted_spelled [] v h = absurd (cc h)
@@ -323,32 +338,46 @@ link_read line l (link_verb.Pump k) h =
 link_read line l link_verb.Cut h =
     link_row line l link_verb.Cut [] (λ rest. refl, λ rest. refl) refl (λ a. then_made (λ l. verb.AtLink l link_verb.Cut) (connection_of a)) h
 
-link_made_read : (line : List ℕ) (l m n k b : ℕ) → Says line (verb.Link l m n k b) → IsRead line (verb.Link l m n k b)
-link_made_read line l m n k b h =
+mode_read : (t : Bool) → link_mode (mode_word t) ≡ Some t
+mode_read false = refl
+mode_read true = refl
+
+mode_alone : (t : Bool) → words_of (mode_word t) ≡ mode_word t ∷ []
+mode_alone false = refl
+mode_alone true = refl
+
+terms_read : (b : ℕ) (t : Bool) → b < 2 ^ 32 → b < 2 ^ 64 → terms_in (decimal b) (mode_word t) ≡ Some (b, t)
+unfolding terms_in
+terms_read b t fits low =
+    ap (option_and_then (λ b. option_map (λ m. (b, m)) (link_mode (mode_word t)))) (in_limit BUFFERS b fits low) ∙ ap (option_map (λ m. (b, m))) (mode_read t)
+
+link_made_read : (line : List ℕ) (l m n k b : ℕ) (t : Bool) → Says line (verb.Link l m n k b t) → IsRead line (verb.Link l m n k b t)
+link_made_read line l m n k b t h =
     let l_low : l < 2 ^ 64 = omega (arith, h.0.0) in
     let m_low : m < 2 ^ 64 = omega (arith, h.0.1) in
     let n_low : n < 2 ^ 64 = omega (arith, h.0.2) in
     let k_low : k < 2 ^ 64 = omega (arith, h.0.3) in
     let b_low : b < 2 ^ 64 = omega (arith, h.0.4) in
-    let last = decimal b ∷ codes "follow" ∷ [] in
-    let end = 32 ∷ (decimal b ++ codes " follow") in
+    let last = decimal b ∷ mode_word t ∷ [] in
+    let end = 32 ∷ (decimal b ++ 32 ∷ mode_word t) in
+    let terms = terms_in (decimal b) (mode_word t) in
     word_read line (codes "link") (decimal l ++ 32 ∷ (decimal m ++ 32 ∷ (decimal n ++ 32 ∷ (decimal k ++ end))))
-    (decimal l ∷ decimal m ∷ decimal n ∷ decimal k ∷ last) (verb.Link l m n k b) (λ rest. refl, λ rest. refl) h.1
+    (decimal l ∷ decimal m ∷ decimal n ∷ decimal k ∷ last) (verb.Link l m n k b t) (λ rest. refl, λ rest. refl) h.1
     (first (decimal l) (decimal m ++ 32 ∷ (decimal n ++ 32 ∷ (decimal k ++ end))) (decimal m ∷ decimal n ∷ decimal k ∷ last) (decimal_word l l_low)
     (first (decimal m) (decimal n ++ 32 ∷ (decimal k ++ end)) (decimal n ∷ decimal k ∷ last) (decimal_word m m_low)
-    (numbered n k end last n_low k_low (refl, first (decimal b) (codes "follow") (codes "follow" ∷ []) (decimal_word b b_low) refl))))
-    (ap (option_and_then (λ l. option_and_then (λ m. option_and_then (λ n. option_and_then (λ k. option_map (verb.Link l m n k) (buffer_of (decimal b))) (vbucket_of (decimal k))) (node_of (decimal n))) (node_of (decimal m)))) (in_limit CONNECTIONS l h.0.0 l_low)
-    ∙ ap (option_and_then (λ m. option_and_then (λ n. option_and_then (λ k. option_map (verb.Link l m n k) (buffer_of (decimal b))) (vbucket_of (decimal k))) (node_of (decimal n)))) (in_limit NODES m h.0.1 m_low)
-    ∙ ap (option_and_then (λ n. option_and_then (λ k. option_map (verb.Link l m n k) (buffer_of (decimal b))) (vbucket_of (decimal k)))) (in_limit NODES n h.0.2 n_low)
-    ∙ ap (option_and_then (λ k. option_map (verb.Link l m n k) (buffer_of (decimal b)))) (in_limit VBUCKETS k h.0.3 k_low)
-    ∙ ap (option_map (verb.Link l m n k)) (in_limit BUFFERS b h.0.4 b_low))
+    (numbered n k end last n_low k_low (refl, first (decimal b) (mode_word t) (mode_word t ∷ []) (decimal_word b b_low) (mode_alone t)))))
+    (ap (option_and_then (λ l. option_and_then (λ m. option_and_then (λ n. option_and_then (λ k. option_map (λ t. verb.Link l m n k t.0 t.1) terms) (vbucket_of (decimal k))) (node_of (decimal n))) (node_of (decimal m)))) (in_limit CONNECTIONS l h.0.0 l_low)
+    ∙ ap (option_and_then (λ m. option_and_then (λ n. option_and_then (λ k. option_map (λ t. verb.Link l m n k t.0 t.1) terms) (vbucket_of (decimal k))) (node_of (decimal n)))) (in_limit NODES m h.0.1 m_low)
+    ∙ ap (option_and_then (λ n. option_and_then (λ k. option_map (λ t. verb.Link l m n k t.0 t.1) terms) (vbucket_of (decimal k)))) (in_limit NODES n h.0.2 n_low)
+    ∙ ap (option_and_then (λ k. option_map (λ t. verb.Link l m n k t.0 t.1) terms)) (in_limit VBUCKETS k h.0.3 k_low)
+    ∙ ap (option_map (λ t. verb.Link l m n k t.0 t.1)) (terms_read b t h.0.4 b_low))
 
 pub spelled_read : (line : List ℕ) (v : Verb) → Says line v → IsRead line v
 spelled_read line (verb.Node n) h =
     let low : n < 2 ^ 64 = omega (arith, h.0) in
     word_read line (codes "node") (decimal n) (decimal n ∷ []) (verb.Node n) (λ rest. refl, λ rest. refl) h.1 (one (decimal n) (decimal_word n low))
     (ap (option_map verb.Node) (in_limit NODES n h.0 low))
-spelled_read line (verb.Link l m n k b) h = link_made_read line l m n k b h
+spelled_read line (verb.Link l m n k b t) h = link_made_read line l m n k b t h
 spelled_read line (verb.AtNode n what) h = node_read line n what h
 spelled_read line (verb.AtVb n k what) h = vb_read line n k what h
 spelled_read line (verb.AtClient n c what) h = client_read line n c what h

@@ -8,6 +8,7 @@ use Rattle.vb_events.specs.declared.event.ItemAct.TheVariants as sent
 use Rattle.vb_events.specs.declared.event.Why.TheVariants as why
 use Rattle.vb_types.specs.declared.role.Role.TheVariants as role
 use Rattle.script_text.specs.Numbers.{number_of}
+use Rattle.script_text.specs.Grammar.{terms_in}
 use Rattle.script_text.specs.Transcript.{act_text, cause_text, client_text, event_text, flag_text, level_text, link_text, place_text, reason_text, role_text, sent_text, spaced, why_text}
 use Rattle.script_text.specs.Wordings.{IsWordOf, LevelsInWords, ActsInWords, DurableWords, ChainsInWords, ChainsAreRead, ChainsAreRefused, AcknowledgementWords, SavingInWords, SavingWords, StopsInWords, StopWords, StopsAreRead, StopsAreRefused, WindowWords, StateWords, LinksAreRead, LinksAreRefused, PullsAreRead, PullsAreRefused}
 use Rattle.script_text.proofs.KindWords.{level_of, level_is, sent_of, sent_is, flag_of, flag_is, role_of, role_is, cause_of, cause_is, reason_of, reason_is, why_of, why_is}
@@ -158,11 +159,11 @@ states = record {
 }
 
 pub links_read : LinksAreRead
-unfolding number_of
-links_read = record { none = refl; some = refl; most = refl }
+unfolding number_of terms_in
+links_read = record { none = refl; some = refl; most = refl; least_over = refl; some_over = refl; most_over = refl }
 
 pub links_refused : LinksAreRefused
-unfolding number_of
+unfolding number_of terms_in
 links_refused = record {
   wide = refl;
   zeros = refl;
@@ -178,6 +179,16 @@ links_refused = record {
   producer = refl;
   node = refl;
   vb = refl;
+  wide_over = refl;
+  great_letter = refl;
+  with_digit = refl;
+  with_letter = refl;
+  short = refl;
+  both_modes = refl;
+  more_over = refl;
+  no_buffer_over = refl;
+  space_over = refl;
+  other_word = refl;
 }
 
 pub pulls_read : PullsAreRead

@@ -81,7 +81,7 @@ LinkFits link_verb.Cut = Unit {0}
 -- the reader is refused here.
 abbrev pub VerbFits : Verb → Type 0
 VerbFits (verb.Node n) = IsNode n
-VerbFits (verb.Link l m n v b) = IsConnection l × IsNode m × IsNode n × IsVb v × IsBuffer b
+VerbFits (verb.Link l m n v b takeover) = IsConnection l × IsNode m × IsNode n × IsVb v × IsBuffer b
 VerbFits (verb.AtNode n what) = IsNode n × NodeFits what
 VerbFits (verb.AtVb n v what) = IsNode n × IsVb v × VbFits what
 VerbFits (verb.AtClient n c what) = IsNode n × IsConnection c × ClientFits what

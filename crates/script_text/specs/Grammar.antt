@@ -1,5 +1,5 @@
 -- what the words of a line say
-use Rattle.std.specs.Prelude.{ℕ, ◌==◌, ◌&&◌, if◌then◌else◌, nat_le, List, [], ◌∷◌, length, Bool, Option, Some, None, option_and_then, Result, Ok, Err, codes}
+use Rattle.std.specs.Prelude.{ℕ, ◌==◌, ◌&&◌, if◌then◌else◌, nat_le, List, [], ◌∷◌, length, Bool, true, false, Option, Some, None, option_and_then, Result, Ok, Err, codes}
 use Rattle.std.specs.Option.{option_map}
 use Rattle.std.specs.Str.{bytes_eq}
 use Rattle.hex.specs.Hex.{decode_of}
@@ -196,18 +196,22 @@ vb_line word node vb role uuid =
 abbrev pub five_words : List ℕ → List ℕ → List ℕ → List ℕ → List ℕ → Option Verb
 five_words word a b c d = if bytes_eq word (codes "stop") then stop_line a b (filled_of c d) else vb_line word a b c d
 
--- the line makes a link that follows
-abbrev pub is_link : List ℕ → List ℕ → Bool
-is_link word mode = bytes_eq word (codes "link") && bytes_eq mode (codes "follow")
+-- whether a link takes over, by its line's last word
+abbrev pub link_mode : List ℕ → Option Bool
+link_mode word = if bytes_eq word (codes "follow") then Some false else if bytes_eq word (codes "takeover") then Some true else None
 
--- `link L M N V BUF follow`, by its numbers
-abbrev pub linked : List ℕ → List ℕ → List ℕ → List ℕ → List ℕ → Option Verb
-linked link producer node vb buffer =
-    option_and_then (λ l. option_and_then (λ m. option_and_then (λ n. option_and_then (λ v. option_map (verb.Link l m n v) (buffer_of buffer)) (vbucket_of vb)) (node_of node)) (node_of producer)) (connection_of link)
+-- the terms of a link: BUF, and whether it takes over
+unfoldable pub terms_in : List ℕ → List ℕ → Option (ℕ × Bool)
+terms_in buffer mode = option_and_then (λ b. option_map (λ t. (b, t)) (link_mode mode)) (buffer_of buffer)
+
+-- `link L M N V BUF follow`, or `takeover`, by what its terms say
+abbrev pub linked : List ℕ → List ℕ → List ℕ → List ℕ → Option (ℕ × Bool) → Option Verb
+linked link producer node vb terms =
+    option_and_then (λ l. option_and_then (λ m. option_and_then (λ n. option_and_then (λ v. option_map (λ t. verb.Link l m n v t.0 t.1) terms) (vbucket_of vb)) (node_of node)) (node_of producer)) (connection_of link)
 
 -- a line of seven words
 abbrev pub link_line : List ℕ → List ℕ → List ℕ → List ℕ → List ℕ → List ℕ → List ℕ → Option Verb
-link_line word link producer node vb buffer mode = if is_link word mode then linked link producer node vb buffer else None
+link_line word link producer node vb buffer mode = if bytes_eq word (codes "link") then linked link producer node vb (terms_in buffer mode) else None
 
 -- what the words of a line say, by how many they are
 abbrev pub counted_verb : List (List ℕ) → Option Verb

@@ -1,5 +1,5 @@
 -- how each verb is spelled
-use Rattle.std.specs.Prelude.{◌≡◌, ℕ, ◌+◌, ◌%◌, ◌<◌, ◌⊎◌, List, [], ◌∷◌, ◌++◌, length, Option, Some, None, Ok, codes, decimal}
+use Rattle.std.specs.Prelude.{◌≡◌, ℕ, ◌+◌, ◌%◌, ◌<◌, ◌⊎◌, Bool, true, false, List, [], ◌∷◌, ◌++◌, length, Option, Some, None, Ok, codes, decimal}
 use Rattle.std.specs.List.{All, AllPass, flat_map}
 use Rattle.hex.specs.Hex.{decode_of, is_hex_digit}
 use Rattle.vb_disk.specs.declared.made.Outcome.{Outcome}
@@ -90,11 +90,16 @@ link_words (link_verb.Down bytes) = (codes "down", codes " " ⧺ decimal bytes)
 link_words (link_verb.Pump frames) = (codes "pump", codes " " ⧺ decimal frames)
 link_words link_verb.Cut = (codes "cut", [])
 
+-- the last word of a link's line, by whether it takes over
+abbrev pub mode_word : Bool → List ℕ
+mode_word false = codes "follow"
+mode_word true = codes "takeover"
+
 -- the line is the verb's words, with single spaces between
 abbrev pub Spells : List ℕ → Verb → Type 0
 Spells line (verb.Node n) = line ≡ codes "node " ⧺ decimal n
-Spells line (verb.Link l m n v b) =
-    line ≡ codes "link " ⧺ decimal l ⧺ codes " " ⧺ decimal m ⧺ codes " " ⧺ decimal n ⧺ codes " " ⧺ decimal v ⧺ codes " " ⧺ decimal b ⧺ codes " follow"
+Spells line (verb.Link l m n v b takeover) =
+    line ≡ codes "link " ⧺ decimal l ⧺ codes " " ⧺ decimal m ⧺ codes " " ⧺ decimal n ⧺ codes " " ⧺ decimal v ⧺ codes " " ⧺ decimal b ⧺ codes " " ⧺ mode_word takeover
 Spells line (verb.AtNode n what) = line ≡ (node_words what).0 ⧺ codes " " ⧺ decimal n ⧺ (node_words what).1
 Spells line (verb.AtVb n v what) = line ≡ vb_word what ⧺ codes " " ⧺ decimal n ⧺ codes " " ⧺ decimal v ⧺ vb_tail what
 Spells line (verb.AtClient n c what) =

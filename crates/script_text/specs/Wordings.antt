@@ -168,11 +168,14 @@ pub record StateWords : Type 0 where
   pub client : (node client : ℕ) (role : Role)
       → event_text (event.Stated (stream.Client node client) role) ≡ codes "state C" ++ decimal node ++ 46 ∷ (decimal client ++ 32 ∷ role_text role)
 
--- lines of links, with no buffer, with some, and at the limits
+-- lines of links, that follow or take over, with no buffer, with some, and at the limits
 pub record LinksAreRead : Type 0 where
-  pub none : verb_by_letters (codes "link 1 2 3 4 0 follow") ≡ Some (verb.Link 1 2 3 4 0)
-  pub some : verb_by_letters (codes "link 1 2 3 4 10 follow") ≡ Some (verb.Link 1 2 3 4 10)
-  pub most : verb_by_letters (codes "link 999 15 15 1023 4294967295 follow") ≡ Some (verb.Link 999 15 15 1023 4294967295)
+  pub none : verb_by_letters (codes "link 1 2 3 4 0 follow") ≡ Some (verb.Link 1 2 3 4 0 false)
+  pub some : verb_by_letters (codes "link 1 2 3 4 10 follow") ≡ Some (verb.Link 1 2 3 4 10 false)
+  pub most : verb_by_letters (codes "link 999 15 15 1023 4294967295 follow") ≡ Some (verb.Link 999 15 15 1023 4294967295 false)
+  pub least_over : verb_by_letters (codes "link 0 0 0 0 0 takeover") ≡ Some (verb.Link 0 0 0 0 0 true)
+  pub some_over : verb_by_letters (codes "link 1 2 3 4 10 takeover") ≡ Some (verb.Link 1 2 3 4 10 true)
+  pub most_over : verb_by_letters (codes "link 999 15 15 1023 4294967295 takeover") ≡ Some (verb.Link 999 15 15 1023 4294967295 true)
 
 -- lines beside them that say nothing
 pub record LinksAreRefused : Type 0 where
@@ -190,6 +193,16 @@ pub record LinksAreRefused : Type 0 where
   pub producer : verb_by_letters (codes "link 1 16 3 4 0 follow") ≡ None
   pub node : verb_by_letters (codes "link 1 2 16 4 0 follow") ≡ None
   pub vb : verb_by_letters (codes "link 1 2 3 1024 0 follow") ≡ None
+  pub wide_over : verb_by_letters (codes "link 1 2 3 4 4294967296 takeover") ≡ None
+  pub great_letter : verb_by_letters (codes "link 1 2 3 4 0 Takeover") ≡ None
+  pub with_digit : verb_by_letters (codes "link 1 2 3 4 0 takeover2") ≡ None
+  pub with_letter : verb_by_letters (codes "link 1 2 3 4 0 takeovers") ≡ None
+  pub short : verb_by_letters (codes "link 1 2 3 4 0 takeove") ≡ None
+  pub both_modes : verb_by_letters (codes "link 1 2 3 4 0 follow takeover") ≡ None
+  pub more_over : verb_by_letters (codes "link 1 2 3 4 0 takeover 0") ≡ None
+  pub no_buffer_over : verb_by_letters (codes "link 1 2 3 4 takeover") ≡ None
+  pub space_over : verb_by_letters (codes "link 1 2 3 4 0 takeover ") ≡ None
+  pub other_word : verb_by_letters (codes "links 1 2 3 4 0 takeover") ≡ None
 
 -- lines that ask for stream frames, of a client's connection and of a link, at their limits
 pub record PullsAreRead : Type 0 where

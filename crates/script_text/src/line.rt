@@ -1,6 +1,6 @@
 //! Reads a script line.
 ghost use Rattle.std.specs.Prelude.{◌≡◌, ◌==◌, map, take, IfOk};
-ghost use Rattle.script_text.specs.Grammar.{hex_bytes_of, two_words, three_words, clock_line, client_line, hang_line, up_line, down_line, pump_line, fail_line, crash_line, stop_line, verb_of_vb, vbucket_words, kept_of, filled_of, start_line, branches_of, member_of, members_of, others_of, chain_line, chain_words, bytes_line, pull_line, four_words, plain_of_four, vbucket_of_four, five_words, vb_line, is_link, linked, counted_verb, verb_of};
+ghost use Rattle.script_text.specs.Grammar.{hex_bytes_of, two_words, three_words, clock_line, client_line, hang_line, up_line, down_line, pump_line, fail_line, crash_line, stop_line, verb_of_vb, vbucket_words, kept_of, filled_of, start_line, branches_of, member_of, members_of, others_of, chain_line, chain_words, bytes_line, pull_line, four_words, plain_of_four, vbucket_of_four, five_words, vb_line, link_mode, terms_in, linked, counted_verb, verb_of};
 ghost use Rattle.{std.specs.Str.{bytes_eq}, script_text.specs.Lines.{words_of}};
 ghost use Rattle.script_text.specs.Numbers.{numbers_of};
 
@@ -314,22 +314,39 @@ fn vb_verb(word: &[u8], n: &[u8], v: &[u8], role: &[u8], u: &[u8]) -> Option<Ver
     Some(Verb::AtVb { node, vb, what })
 }
 
-/// Whether a line makes a link that follows.
-fn is_link(word: &[u8], mode: &[u8]) -> bool
-    ensures { result ≡ is_link word.now mode.now }
+/// Whether a link takes over, by the last word of its line.
+fn takes_over(mode: &[u8]) -> Option<bool>
+    ensures { result ≡ link_mode mode.now }
 {
-    says(word, b"link") && says(mode, b"follow")
+    if says(mode, b"follow") {
+        Some(false)
+    } else if says(mode, b"takeover") {
+        Some(true)
+    } else {
+        None
+    }
 }
 
-fn link_verb(l: &[u8], m: &[u8], n: &[u8], v: &[u8], b: &[u8]) -> Option<Verb>
-    ensures { result ≡ linked l.now m.now n.now v.now b.now }
+/// On what terms a link dials: the bytes of its buffer, and whether it takes over.
+#[tactic(auto, unfolding(crate::specs::Grammar::terms_in))]
+fn terms(b: &[u8], mode: &[u8]) -> Option<(u32, bool)>
+    ensures { result ≡ terms_in b.now mode.now }
 {
+    Some((buffer(b)?, takes_over(mode)?))
+}
+
+fn link_verb(l: &[u8], m: &[u8], n: &[u8], v: &[u8], terms: Option<(u32, bool)>) -> Option<Verb>
+    ensures { result ≡ linked l.now m.now n.now v.now terms }
+{
+    let (id, from, to, vb) = (connection(l)?, node(m)?, node(n)?, vbucket(v)?);
+    let (buffer, takeover) = terms?;
     Some(Verb::Link {
-        id: connection(l)?,
-        from: node(m)?,
-        to: node(n)?,
-        vb: vbucket(v)?,
-        buffer: buffer(b)?,
+        id,
+        from,
+        to,
+        vb,
+        buffer,
+        takeover,
     })
 }
 
@@ -444,8 +461,9 @@ fn counted_verb(alloc: Global, words: &[&[u8]]) -> Result<Option<Verb>, AllocErr
         [word, a, b, c] => verb_of_four(alloc, word, a, b, c),
         [word, a, b, c, d] => Ok(verb_of_five(word, a, b, c, d)),
         [word, l, m, n, v, b, mode] => {
-            if is_link(word, mode) {
-                Ok(link_verb(l, m, n, v, b))
+            let terms = terms(b, mode);
+            if says(word, b"link") {
+                Ok(link_verb(l, m, n, v, terms))
             } else {
                 Ok(None)
             }

@@ -11,13 +11,15 @@ pub enum Verb {
         node: u8,
     },
     /// `link L M N V BUF follow`: node N's consumer of vBucket V dials node M, to follow its active
-    /// vBucket, with a flow-control buffer of BUF bytes; with none where BUF is 0.
+    /// vBucket, with a flow-control buffer of BUF bytes; with none where BUF is 0. With `takeover` in
+    /// place of `follow` it dials to take the vBucket over.
     Link {
         id: u32,
         from: u8,
         to: u8,
         vb: u16,
         buffer: u32,
+        takeover: bool,
     },
     /// A line for a node.
     AtNode {
