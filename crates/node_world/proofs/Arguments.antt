@@ -14,7 +14,6 @@ use Rattle.vb_types.specs.declared.role.Role.{Role}
 use Rattle.vb_types.specs.declared.role.Role.TheVariants as role
 use Rattle.vb_calls.specs.Shelves.{Append, Shelf, Shelves, shelves_step}
 use Rattle.vb_calls.specs.State.{Plain, first_log, new_vb}
-use Rattle.vbucket.specs.Rows.{row_at}
 use Rattle.node_core.specs.Calls.{named_ask}
 use Rattle.node_core.specs.Clients.{PlainClient, client_pulled, new_client}
 use Rattle.dcp_producer.specs.Ending.{end_closed}
@@ -23,14 +22,14 @@ use Rattle.vb_calls.specs.States.{States}
 use Rattle.node_world.specs.declared.arm.Arm.{Arm}
 use Rattle.node_world.specs.declared.arm.Fired.TheVariants as fired
 use Rattle.node_world.specs.declared.told.Told.{Told}
-use Rattle.node_world.specs.Arguments.{DialsAs, LeavesClient, MakesVb, PassesArms, PassesClients, PassesDials, PassesFrames, PassesVbs}
+use Rattle.node_world.specs.Arguments.{DialsAs, LeavesClient, MakesVb, PassesArms, PassesClients, PassesDials, PassesVbs}
 use Rattle.node_world.specs.Arms.{fail_arm, fired_by, no_arm, placed, stop_arm}
 use Rattle.node_world.specs.Causes.{Notes}
-use Rattle.node_world.specs.Links.{PlainLink, ask_of, link_number, new_link, producer_node, pump_at}
+use Rattle.node_world.specs.Links.{PlainLink, ask_of, new_link}
 use Rattle.node_world.specs.Nodes.{PlainNode, arm_at, client_at, done, first_cause, hang_at, refusal, refused_or, replica_at, shelf_or_blank, vb_at, vb_made, with_client, with_disk, hung_if, pull_at, pull_if, with_states}
 use Rattle.node_world.specs.Power.{after_fire, with_arm}
-use Rattle.node_world.specs.World.{ask_in, base_of, link_causes, link_outcome, with_dialed, with_link}
-use Rattle.node_world.specs.Worlds.{PlainWorld, Outcome, arm_in, node_outcome, on_made, on_node, vb_in, with_links}
+use Rattle.node_world.specs.World.{ask_in, base_of, link_causes, with_dialed}
+use Rattle.node_world.specs.Worlds.{PlainWorld, Outcome, arm_in, on_made, on_node, vb_in, with_links}
 use Rattle.node_world.proofs.CallsMade.{leaves_so, line_is}
 use Rattle.node_world.proofs.NodeCauses.{vb_row}
 use Rattle.node_world.proofs.Shelved.{shelf_here}
@@ -146,19 +145,14 @@ no_ok why e = cc
 
 module _ (w : PlainWorld) (n v : ℕ) (node : PlainNode) (vb : Plain) (there : w.nodes n ≡ Some node) (here : node.vbs v ≡ Some vb) where
   pub dials : PassesDials w n v node vb
-  dials number l m buffer ask asks ok = by (first_cause (link_causes w l m n v)) ok
+  dials number l m buffer takeover ask asks ok = by (first_cause (link_causes w l m n v)) ok
     where
       asked : ask_in w n v ≡ Some ask
       asked = ap (λ o. option_and_then ask_of (vb_in o v)) there ∙ ap (option_and_then ask_of) here ∙ ap named_ask asks
 
       came : Outcome
-      came = (with_links w (with_dialed number l m n v buffer w.links (ask_in w n v)), done [])
+      came = (with_links w (with_dialed number l m n v buffer takeover w.links (ask_in w n v)), done [])
 
-      by : (why : Option Cause) → (refused_or why w came).1.answer ≡ line.Ok → (link : PlainLink) × ((refused_or why w came).0.links ≡ w.links ++ link ∷ []) × DialsAs number l m n v buffer ask link
+      by : (why : Option Cause) → (refused_or why w came).1.answer ≡ line.Ok → (link : PlainLink) × ((refused_or why w came).0.links ≡ w.links ++ link ∷ []) × DialsAs number l m n v buffer takeover ask link
       by (Some why) ok = absurd (no_ok why ok)
-      by None ok = (new_link number l m n v buffer ask, ap (with_dialed number l m n v buffer w.links) asked, record { consumer = refl; producer = refl; up = refl; down = refl })
-
-module _ (w : PlainWorld) (l : ℕ) (link : PlainLink) (producer : PlainNode) (add_link : row_at link_number l w.links ≡ Some link) (from : w.nodes (producer_node link) ≡ Some producer) where
-  pub frames : PassesFrames w l link producer
-  frames number count =
-      ap (λ o. (link_outcome w l producer_node (pump_at count) o).1) add_link ∙ ap (λ o. (with_link link (node_outcome w (producer_node link) (Some link, refusal cause.UnknownNode) o (pump_at count link))).1) from
+      by None ok = (new_link number l m n v buffer takeover ask, ap (with_dialed number l m n v buffer takeover w.links) asked, record { consumer = refl; producer = refl; up = refl; down = refl })

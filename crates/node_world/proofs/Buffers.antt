@@ -35,7 +35,7 @@ use Rattle.dcp_producer.proofs.Decimals.{sizes}
 use Rattle.dcp_producer.specs.Producers.{PlainProducer, begun}
 use Rattle.dcp_producer.specs.Serving.{frame_answered, open_refusal, opened_unless, read_answered, sized, sized_as, status_sent}
 use Rattle.dcp_producer.specs.Sizes.{size_of}
-use Rattle.dcp_consumer.specs.Dialing.{buffer_request, member_name, name_request, numbered, open_request, requests, stream_opaque, sync_request}
+use Rattle.dcp_consumer.specs.Dialing.{buffer_request, flagged, member_name, name_request, numbered, open_request, requests, stream_opaque, sync_request}
 use Rattle.node_core.specs.Peers.{PlainPeer, PeerResult, peer_answered, peer_heard, peer_result}
 use Rattle.node_world.specs.Buffers.{BuffersBecomeWindows, BuffersInNumbers, IsBuffered}
 use Rattle.node_world.specs.BytesMoved.{given_up}
@@ -48,9 +48,9 @@ use Rattle.node_world.proofs.Rows.{put_found}
 
 -- ---- in numbers
 
-pub in_numbers : (line l m v : ℕ) (ask : StreamAsk) (producer : PlainNode) → BuffersInNumbers line l m v ask producer
+pub in_numbers : (line l m v : ℕ) (takeover : Bool) (ask : StreamAsk) (producer : PlainNode) → BuffersInNumbers line l m v takeover ask producer
 unfolding requests dcp_frame spelling digits frames_in first_frame frame_of frame_answered read_of frame_row shape_fault status_sent size_of
-in_numbers line l m v ask producer = record { all = refl; asks = refl; before = refl; behind = refl; fewer = refl; unasked = refl }
+in_numbers line l m v takeover ask producer = record { all = refl; asks = refl; before = refl; behind = refl; fewer = refl; unasked = refl }
 
 -- ---- the first two requests
 
@@ -106,10 +106,10 @@ module _ (n buffer : ℕ) (small : n < 16) (within : buffer < 4294967296) where
   parted : (a b x y z : List ℕ) → (a ++ (b ++ (x ++ (y ++ [])))) ++ z ≡ (a ++ b) ++ (x ++ (y ++ z))
   parted a b x y z = simp (append_assoc, append-nil)
 
-  front : (l v : ℕ) (ask : StreamAsk) → 0 < buffer → (rest : List ℕ) × (requests (record { link = l; node = n; vb = v; buffer = buffer; takeover = false }) ask ≡ first ++ rest)
+  front : (l v : ℕ) (takeover : Bool) (ask : StreamAsk) → 0 < buffer → (rest : List ℕ) × (requests (record { link = l; node = n; vb = v; buffer = buffer; takeover = takeover }) ask ≡ first ++ rest)
   unfolding requests
-  front l v ask some =
-      let last = spelling (dcp_frame (msg.StreamRequest (record ask { flags = 0 })) (stream_opaque buffer) v) in
+  front l v takeover ask some =
+      let last = spelling (dcp_frame (msg.StreamRequest (flagged takeover ask)) (stream_opaque buffer) v) in
       let sync = spelling (dcp_frame sync_request 3 0) in
       let name = spelling (dcp_frame (name_request n) 4 0) in (
         sync ++ (name ++ last),
@@ -138,15 +138,15 @@ module _ (n buffer : ℕ) (small : n < 16) (within : buffer < 4294967296) where
       windowed next.1.peer next.0.vbs (ap (λ (p : PlainProducer). p.handshake) known) ∙ ap (λ (p : PlainProducer). record p.window { size = buffer }) known
 
   -- given so many bytes, a new link's producer has the window
-  module _ (line l m v : ℕ) (ask : StreamAsk) (some : 0 < buffer) where
+  module _ (line l m v : ℕ) (takeover : Bool) (ask : StreamAsk) (some : 0 < buffer) where
     abbrev new : PlainLink
-    new = new_link line l m n v buffer ask
+    new = new_link line l m n v buffer takeover ask
 
     enough : count ≤ length new.up
-    enough = let (rest, e) = front l v ask some in omega (arith, ap length e, length-append first rest, first_len)
+    enough = let (rest, e) = front l v takeover ask some in omega (arith, ap length e, length-append first rest, first_len)
 
     piece : take count new.up ≡ first
-    piece = let (rest, e) = front l v ask some in ap (take count) e ∙ ap (λ k. take k (first ++ rest)) (sym first_len) ∙ take-append_seam first rest
+    piece = let (rest, e) = front l v takeover ask some in ap (take count) e ∙ ap (λ k. take k (first ++ rest)) (sym first_len) ∙ take-append_seam first rest
 
     given : (producer : PlainNode) → (given_up count new producer).1.peer.producer.window ≡ record { size = buffer; outstanding = 0 }
     given producer =
@@ -196,9 +196,9 @@ row_new l n v (y ∷ ys) x free is = by (link_number y == l) (feeds n v y) free 
     by false true e later = cc
     by false false e later = later e
 
-module _ (w : PlainWorld) (l m n v buffer : ℕ) (small : n < 16) (some : 0 < buffer) (within : buffer < 4294967296) (number next : ℕ) (ask : StreamAsk) (producer : PlainNode) (from : w.nodes m ≡ Some producer) (free : is_taken w.links l n v ≡ false) where
+module _ (w : PlainWorld) (l m n v buffer : ℕ) (takeover : Bool) (small : n < 16) (some : 0 < buffer) (within : buffer < 4294967296) (number next : ℕ) (ask : StreamAsk) (producer : PlainNode) (from : w.nodes m ≡ Some producer) (free : is_taken w.links l n v ≡ false) where
   abbrev link : PlainLink
-  link = new_link number l m n v buffer ask
+  link = new_link number l m n v buffer takeover ask
 
   abbrev wanted : ℕ
   wanted = 33 + length (decimal n) + 46 + length (decimal buffer)
@@ -218,20 +218,20 @@ module _ (w : PlainWorld) (l m n v buffer : ℕ) (small : n < 16) (some : 0 < bu
       ∙ ap (λ o. (with_link link (node_outcome dialed m (Some link, refusal cause.UnknownNode) o (up_at wanted link))).0.links) from
 
   all_moved : moved_len wanted link.up ≡ wanted
-  all_moved = (most wanted (length link.up)).few (enough n buffer small within number l m v ask some)
+  all_moved = (most wanted (length link.up)).few (enough n buffer small within number l m v takeover ask some)
 
   pub buffered : IsBuffered l buffer (verb_step dialed next (verb.AtLink l (link_verb.Up wanted)))
   buffered = record {
     link = now;
     there = ap (row_at link_number l) fed ∙ put_found link_number l dialed.links link now row refl;
-    window = ap (λ k. (given_up k link producer).1.peer.producer.window) all_moved ∙ given n buffer small within number l m v ask some producer;
+    window = ap (λ k. (given_up k link producer).1.peer.producer.window) all_moved ∙ given n buffer small within number l m v takeover ask some producer;
   }
 
-pub lines : (w : PlainWorld) (l m n v buffer : ℕ) → BuffersBecomeWindows w l m n v buffer
-lines w l m n v buffer number next ok small some within =
-    let came : Outcome = (with_links w (with_dialed number l m n v buffer w.links (ask_in w n v)), done []) in
+pub lines : (w : PlainWorld) (l m n v buffer : ℕ) (takeover : Bool) → BuffersBecomeWindows w l m n v buffer takeover
+lines w l m n v buffer takeover number next ok small some within =
+    let came : Outcome = (with_links w (with_dialed number l m n v buffer takeover w.links (ask_in w n v)), done []) in
     let (named, asks, free, is) = let_through w came (not (is_some (w.nodes m) && is_some (w.nodes n))) (is_off (w.nodes m) || is_off (w.nodes n)) (not (is_some (vb_in (w.nodes n) v))) (not (is_some (ask_in w n v))) (is_taken w.links l n v) ok in
     let (producer, from) = there (w.nodes m) (made (is_some (w.nodes m)) (is_some (w.nodes n)) named) in
     let (ask, asked) = there (ask_in w n v) (not_not (is_some (ask_in w n v)) asks) in
-    let whole : (verb_step w number (verb.Link l m n v buffer)).0 ≡ with_links w (w.links ++ new_link number l m n v buffer ask ∷ []) = ap (λ (o : Outcome). o.0) is ∙ ap (λ o. with_links w (with_dialed number l m n v buffer w.links o)) asked in
-    subst (λ x. IsBuffered l buffer (verb_step x next (verb.AtLink l (link_verb.Up (33 + length (decimal n) + 46 + length (decimal buffer)))))) (sym whole) (buffered w l m n v buffer small some within number next ask producer from free)
+    let whole : (verb_step w number (verb.Link l m n v buffer takeover)).0 ≡ with_links w (w.links ++ new_link number l m n v buffer takeover ask ∷ []) = ap (λ (o : Outcome). o.0) is ∙ ap (λ o. with_links w (with_dialed number l m n v buffer takeover w.links o)) asked in
+    subst (λ x. IsBuffered l buffer (verb_step x next (verb.AtLink l (link_verb.Up (33 + length (decimal n) + 46 + length (decimal buffer)))))) (sym whole) (buffered w l m n v buffer takeover small some within number next ask producer from free)

@@ -19,7 +19,7 @@ causes w = record {
   at_made_vb = at_made_vb w;
   at_shelf = λ n v node vb shelf there up here kept notes. at_shelf w n v node vb there up here shelf kept notes;
   dials = dials w;
-  dials_made = λ l m n v buffer producer node here there. dials_made w l m n v buffer producer node here there;
+  dials_made = λ l m n v buffer takeover producer node here there. dials_made w l m n v buffer takeover producer node here there;
   no_link = no_link w;
   at_link = at_link w;
 }

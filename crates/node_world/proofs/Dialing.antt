@@ -108,51 +108,51 @@ module _ (ends : Ends) (l n v : ℕ) where
       rest false f = f
 
 -- what is said of a line that dials
-abbrev DialRow : PlainWorld → ℕ → ℕ → ℕ → ℕ → ℕ → ℕ → Result StreamAsk Cause → Outcome → Type 0
-DialRow w line l m n v buffer (Err why) o = o ≡ (w, refusal why)
-DialRow w line l m n v buffer (Ok asks) o = o ≡ (with_links w (w.links ++ new_link line l m n v buffer asks ∷ []), done [])
+abbrev DialRow : PlainWorld → ℕ → ℕ → ℕ → ℕ → ℕ → ℕ → Bool → Result StreamAsk Cause → Outcome → Type 0
+DialRow w line l m n v buffer takeover (Err why) o = o ≡ (w, refusal why)
+DialRow w line l m n v buffer takeover (Ok asks) o = o ≡ (with_links w (w.links ++ new_link line l m n v buffer takeover asks ∷ []), done [])
 
-module _ (w : PlainWorld) (line l m n v buffer : ℕ) where
+module _ (w : PlainWorld) (line l m n v buffer : ℕ) (takeover : Bool) where
   abbrev rest : Option Plain → Outcome
   rest o = refused_or
       (first_cause ((not (is_some o), cause.UnknownVb) ∷ (not (is_some (option_and_then ask_of o)), cause.WrongRole) ∷ (is_taken w.links l n v, cause.LinkOpen) ∷ [])) w
-      (with_links w (with_dialed line l m n v buffer w.links (option_and_then ask_of o)), done [])
+      (with_links w (with_dialed line l m n v buffer takeover w.links (option_and_then ask_of o)), done [])
 
   -- a node that the line names is not made
-  unmade_both : (is_some (w.nodes m) && is_some (w.nodes n)) ≡ false → link_step w line l m n v buffer ≡ (w, refusal cause.UnknownNode)
+  unmade_both : (is_some (w.nodes m) && is_some (w.nodes n)) ≡ false → link_step w line l m n v buffer takeover ≡ (w, refusal cause.UnknownNode)
   unmade_both e =
       ap (λ b. refused_or (if not b then Some cause.UnknownNode else first_cause ((is_off (w.nodes m) || is_off (w.nodes n), cause.NodeDown) ∷ (not (is_some (vb_in (w.nodes n) v)), cause.UnknownVb) ∷ (not (is_some (ask_in w n v)), cause.WrongRole) ∷ (is_taken w.links l n v, cause.LinkOpen) ∷ [])) w
-      (with_links w (with_dialed line l m n v buffer w.links (ask_in w n v)), done [])) e
+      (with_links w (with_dialed line l m n v buffer takeover w.links (ask_in w n v)), done [])) e
 
   -- one of them is down
-  down_both : (is_some (w.nodes m) && is_some (w.nodes n)) ≡ true → (is_off (w.nodes m) || is_off (w.nodes n)) ≡ true → link_step w line l m n v buffer ≡ (w, refusal cause.NodeDown)
+  down_both : (is_some (w.nodes m) && is_some (w.nodes n)) ≡ true → (is_off (w.nodes m) || is_off (w.nodes n)) ≡ true → link_step w line l m n v buffer takeover ≡ (w, refusal cause.NodeDown)
   down_both e f = λ i. refused_or
       (if not (e i) then Some cause.UnknownNode
       else if f i then Some cause.NodeDown else first_cause ((not (is_some (vb_in (w.nodes n) v)), cause.UnknownVb) ∷ (not (is_some (ask_in w n v)), cause.WrongRole) ∷ (is_taken w.links l n v, cause.LinkOpen) ∷ [])) w
-      (with_links w (with_dialed line l m n v buffer w.links (ask_in w n v)), done [])
+      (with_links w (with_dialed line l m n v buffer takeover w.links (ask_in w n v)), done [])
 
   -- both are made
-  made_both : (node : PlainNode) → is_some (w.nodes m) ≡ true → w.nodes n ≡ Some node → (is_off (w.nodes m) || is_off (w.nodes n)) ≡ false → link_step w line l m n v buffer ≡ rest (node.vbs v)
+  made_both : (node : PlainNode) → is_some (w.nodes m) ≡ true → w.nodes n ≡ Some node → (is_off (w.nodes m) || is_off (w.nodes n)) ≡ false → link_step w line l m n v buffer takeover ≡ rest (node.vbs v)
   made_both node e f up = λ i. refused_or
       (first_cause
       ((not (e i && is_some (f i)), cause.UnknownNode) ∷ (up i, cause.NodeDown) ∷ (not (is_some (vb_in (f i) v)), cause.UnknownVb) ∷ (not (is_some (option_and_then ask_of (vb_in (f i) v))), cause.WrongRole) ∷ (is_taken w.links l n v, cause.LinkOpen) ∷ [])) w
-      (with_links w (with_dialed line l m n v buffer w.links (option_and_then ask_of (vb_in (f i) v))), done [])
+      (with_links w (with_dialed line l m n v buffer takeover w.links (option_and_then ask_of (vb_in (f i) v))), done [])
 
   -- by what the vBucket says
-  said_row : (states : States) (b : Bool) → is_taken w.links l n v ≡ not b → DialRow w line l m n v buffer (after (dial_requested v b) states).1 (rest (states v))
+  said_row : (states : States) (b : Bool) → is_taken w.links l n v ≡ not b → DialRow w line l m n v buffer takeover (after (dial_requested v b) states).1 (rest (states v))
   said_row states b taken = by (states v)
     where
       free_row : (asks : StreamAsk) (c : Bool) → is_taken w.links l n v ≡ not c
-          → DialRow w line l m n v buffer (if c then Ok asks else Err cause.LinkOpen) (refused_or (if is_taken w.links l n v then Some cause.LinkOpen else None) w (with_links w (w.links ++ new_link line l m n v buffer asks ∷ []), done []))
-      free_row asks true t = ap (λ x. refused_or (if x then Some cause.LinkOpen else None) w (with_links w (w.links ++ new_link line l m n v buffer asks ∷ []), done [])) t
-      free_row asks false t = ap (λ x. refused_or (if x then Some cause.LinkOpen else None) w (with_links w (w.links ++ new_link line l m n v buffer asks ∷ []), done [])) t
+          → DialRow w line l m n v buffer takeover (if c then Ok asks else Err cause.LinkOpen) (refused_or (if is_taken w.links l n v then Some cause.LinkOpen else None) w (with_links w (w.links ++ new_link line l m n v buffer takeover asks ∷ []), done []))
+      free_row asks true t = ap (λ x. refused_or (if x then Some cause.LinkOpen else None) w (with_links w (w.links ++ new_link line l m n v buffer takeover asks ∷ []), done [])) t
+      free_row asks false t = ap (λ x. refused_or (if x then Some cause.LinkOpen else None) w (with_links w (w.links ++ new_link line l m n v buffer takeover asks ∷ []), done [])) t
 
-      ask_row : (o : Option StreamAsk) → DialRow w line l m n v buffer (ask_if b (ask_or_role o))
-          (refused_or (first_cause ((not (is_some o), cause.WrongRole) ∷ (is_taken w.links l n v, cause.LinkOpen) ∷ [])) w (with_links w (with_dialed line l m n v buffer w.links o), done []))
+      ask_row : (o : Option StreamAsk) → DialRow w line l m n v buffer takeover (ask_if b (ask_or_role o))
+          (refused_or (first_cause ((not (is_some o), cause.WrongRole) ∷ (is_taken w.links l n v, cause.LinkOpen) ∷ [])) w (with_links w (with_dialed line l m n v buffer takeover w.links o), done []))
       ask_row None = refl
       ask_row (Some asks) = free_row asks b taken
 
-      by : (o : Option Plain) → DialRow w line l m n v buffer (ask_if b (ask_of_reply (call_at states v call.Ask o).1)) (rest o)
+      by : (o : Option Plain) → DialRow w line l m n v buffer takeover (ask_if b (ask_of_reply (call_at states v call.Ask o).1)) (rest o)
       by None = refl
       by (Some vb) = ask_row (ask_of vb)
 
@@ -169,16 +169,16 @@ module _ (w : PlainWorld) (line l m n v buffer : ℕ) where
       by o f = none (ask_of_reply (call_at states v call.Ask o).1) f
 
 -- a node that the line names is not made
-pub unmade_producer : (kept : Kept) (w : PlainWorld) (line l m n v buffer : ℕ) → position (λ node. node_number node == m) kept.nodes ≡ None → WorldStands kept w
-    → WorldStands kept (link_step w line l m n v buffer).0 × (refusal cause.UnknownNode ≡ (link_step w line l m n v buffer).1)
-unmade_producer kept w line l m n v buffer none stands =
-    let e = unmade_both w line l m n v buffer (ap (λ o. is_some o && is_some (w.nodes n)) (no_node kept.nodes w m none stands.nodes)) in
+pub unmade_producer : (kept : Kept) (w : PlainWorld) (line l m n v buffer : ℕ) (takeover : Bool) → position (λ node. node_number node == m) kept.nodes ≡ None → WorldStands kept w
+    → WorldStands kept (link_step w line l m n v buffer takeover).0 × (refusal cause.UnknownNode ≡ (link_step w line l m n v buffer takeover).1)
+unmade_producer kept w line l m n v buffer takeover none stands =
+    let e = unmade_both w line l m n v buffer takeover (ap (λ o. is_some o && is_some (w.nodes n)) (no_node kept.nodes w m none stands.nodes)) in
     subst (λ (o : Outcome). WorldStands kept o.0 × (refusal cause.UnknownNode ≡ o.1)) (sym e) (stands, refl)
 
-pub unmade_consumer : (kept : Kept) (w : PlainWorld) (line l m n v buffer : ℕ) → position (λ node. node_number node == n) kept.nodes ≡ None → WorldStands kept w
-    → WorldStands kept (link_step w line l m n v buffer).0 × (refusal cause.UnknownNode ≡ (link_step w line l m n v buffer).1)
-unmade_consumer kept w line l m n v buffer none stands =
-    let e = unmade_both w line l m n v buffer (ap (λ o. is_some (w.nodes m) && is_some o) (no_node kept.nodes w n none stands.nodes) ∙ and_false (is_some (w.nodes m))) in
+pub unmade_consumer : (kept : Kept) (w : PlainWorld) (line l m n v buffer : ℕ) (takeover : Bool) → position (λ node. node_number node == n) kept.nodes ≡ None → WorldStands kept w
+    → WorldStands kept (link_step w line l m n v buffer takeover).0 × (refusal cause.UnknownNode ≡ (link_step w line l m n v buffer takeover).1)
+unmade_consumer kept w line l m n v buffer takeover none stands =
+    let e = unmade_both w line l m n v buffer takeover (ap (λ o. is_some (w.nodes m) && is_some o) (no_node kept.nodes w n none stands.nodes) ∙ and_false (is_some (w.nodes m))) in
     subst (λ (o : Outcome). WorldStands kept o.0 × (refusal cause.UnknownNode ≡ o.1)) (sym e) (stands, refl)
   where
     and_false : (b : Bool) → (b && false) ≡ false
@@ -197,15 +197,15 @@ pub both_on : (a b : Bool) → a ≡ false → b ≡ false → (a || b) ≡ fals
 both_on a b e f = λ i. e i || f i
 
 -- a node that the line names is down
-pub down_ends : (kept : Kept) (w : PlainWorld) (line l m n v buffer : ℕ) → is_some (w.nodes m) ≡ true → is_some (w.nodes n) ≡ true → (is_off (w.nodes m) || is_off (w.nodes n)) ≡ true → WorldStands kept w
-    → WorldStands kept (link_step w line l m n v buffer).0 × (refusal cause.NodeDown ≡ (link_step w line l m n v buffer).1)
-down_ends kept w line l m n v buffer e f down stands =
-    subst (λ (o : Outcome). WorldStands kept o.0 × (refusal cause.NodeDown ≡ o.1)) (sym (down_both w line l m n v buffer (λ i. e i && f i) down)) (stands, refl)
+pub down_ends : (kept : Kept) (w : PlainWorld) (line l m n v buffer : ℕ) (takeover : Bool) → is_some (w.nodes m) ≡ true → is_some (w.nodes n) ≡ true → (is_off (w.nodes m) || is_off (w.nodes n)) ≡ true → WorldStands kept w
+    → WorldStands kept (link_step w line l m n v buffer takeover).0 × (refusal cause.NodeDown ≡ (link_step w line l m n v buffer takeover).1)
+down_ends kept w line l m n v buffer takeover e f down stands =
+    subst (λ (o : Outcome). WorldStands kept o.0 × (refusal cause.NodeDown ≡ o.1)) (sym (down_both w line l m n v buffer takeover (λ i. e i && f i) down)) (stands, refl)
 
 -- the nodes at both ends are made, and the vBucket was asked
-module _ (kept : Kept) (w : PlainWorld) (line l m n v buffer at m_at : ℕ) (old new : ScriptNode) (out : NodeOut) (is_free : Bool) (place : Option ℕ) (placed : position (λ node. node_number node == n) kept.nodes ≡ Some at)
+module _ (kept : Kept) (w : PlainWorld) (line l m n v buffer : ℕ) (takeover : Bool) (at m_at : ℕ) (old new : ScriptNode) (out : NodeOut) (is_free : Bool) (place : Option ℕ) (placed : position (λ node. node_number node == n) kept.nodes ≡ Some at)
     (m_placed : position (λ node. node_number node == m) kept.nodes ≡ Some m_at) (is : old ≡ get_or kept.nodes at old) (found : position (λ (x : Link). x.number == l) kept.links ≡ place)
-    (free_is : is_some place ≡ not is_free) (stands : WorldStands kept w) (dials : DialsFor v l buffer is_free old out new) (up_ends : (is_off (w.nodes m) || is_off (w.nodes n)) ≡ false) where
+    (free_is : is_some place ≡ not is_free) (stands : WorldStands kept w) (dials : DialsFor v l buffer takeover is_free old out new) (up_ends : (is_off (w.nodes m) || is_off (w.nodes n)) ≡ false) where
   abbrev nodes' : List ScriptNode
   nodes' = set kept.nodes at new
 
@@ -216,7 +216,7 @@ module _ (kept : Kept) (w : PlainWorld) (line l m n v buffer at m_at : ℕ) (old
   free = is_free && not (is_some (dial_under old v))
 
   abbrev named_dial : Dialed
-  named_dial = record { link = l; node = node_number old; vb = v; buffer = buffer; takeover = false }
+  named_dial = record { link = l; node = node_number old; vb = v; buffer = buffer; takeover = takeover }
 
   dial_is : ends.dials n v ≡ dial_under old v
   dial_is = dial_here kept.nodes n at old new placed is v
@@ -254,8 +254,8 @@ module _ (kept : Kept) (w : PlainWorld) (line l m n v buffer at m_at : ℕ) (old
     abbrev said : Result StreamAsk Cause
     said = (after (dial_requested v free) plain.vbs).1
 
-    row : DialRow w line l m n v buffer said (link_step w line l m n v buffer)
-    row = subst (DialRow w line l m n v buffer said) (sym (made_both w line l m n v buffer plain m_made there up_ends)) (said_row w line l m n v buffer plain.vbs free taken)
+    row : DialRow w line l m n v buffer takeover said (link_step w line l m n v buffer takeover)
+    row = subst (DialRow w line l m n v buffer takeover said) (sym (made_both w line l m n v buffer takeover plain m_made there up_ends)) (said_row w line l m n v buffer takeover plain.vbs free taken)
 
     came : DialCame named_dial said old out new
     came = (dials plain alike (own_up plain alike)).1
@@ -267,11 +267,11 @@ module _ (kept : Kept) (w : PlainWorld) (line l m n v buffer at m_at : ℕ) (old
         record { slots = asked_kept v free new.node.vbs x.vbs known.slots; shelves = known.shelves; made = known.made; clock = known.clock; clients = known.clients; bases = known.bases; arm = known.arm; off = known.off }
 
     -- it was refused
-    refused : (why : Cause) → said ≡ Err why → WorldStands (record kept { nodes = nodes' }) (link_step w line l m n v buffer).0 × (out_told out ≡ (link_step w line l m n v buffer).1)
+    refused : (why : Cause) → said ≡ Err why → WorldStands (record kept { nodes = nodes' }) (link_step w line l m n v buffer takeover).0 × (out_told out ≡ (link_step w line l m n v buffer takeover).1)
     refused why e =
         let kept_ends = (subst (λ r. DialCame named_dial r old out new) e came).1 in
         let handed = (subst (λ r. DialCame named_dial r old out new) e came).0 in
-        let outcome = subst (λ r. DialRow w line l m n v buffer r (link_step w line l m n v buffer)) e row in
+        let outcome = subst (λ r. DialRow w line l m n v buffer takeover r (link_step w line l m n v buffer takeover)) e row in
         subst (λ (o : Outcome). WorldStands (record kept { nodes = nodes' }) o.0 × (out_told out ≡ o.1)) (sym outcome) (
           record {
             nodes = same_stands kept.nodes n at old new placed is kept_ends.number w stands.nodes still;
@@ -320,7 +320,7 @@ module _ (kept : Kept) (w : PlainWorld) (line l m n v buffer at m_at : ℕ) (old
       link = record { number = l; producer = m; conn = key; node = n; vb = v; up = up; down = [] }
 
       abbrev p : PlainLink
-      p = new_link line l m n v buffer asks
+      p = new_link line l m n v buffer takeover asks
 
       peers_between : (a k : ℕ) → (ends_of nodes').peers a k ≡ ends.peers a k
       peers_between = peers_stay kept.nodes n at old new placed is puts.number puts.peers
@@ -338,7 +338,7 @@ module _ (kept : Kept) (w : PlainWorld) (line l m n v buffer at m_at : ℕ) (old
       no_peer = sym (peers_between m key) ∙ peer_here nodes' m m_at m_old m_new m_placed' m_old_is key ∙ opens.1
 
       free_now : free ≡ true
-      free_now = free_of w line l m n v buffer plain.vbs free asks e
+      free_now = free_of w line l m n v buffer takeover plain.vbs free asks e
 
       both_free : (a : Bool) (o : Option KeptDial) → (a && not (is_some o)) ≡ true → (a ≡ true) × (o ≡ None)
       both_free true None f = (refl, refl)
@@ -358,14 +358,14 @@ module _ (kept : Kept) (w : PlainWorld) (line l m n v buffer at m_at : ℕ) (old
         node = refl;
         vb = refl;
         server = peer_put nodes' m m_at m_old m_new m_placed' m_old_is m_puts.number key _ m_puts ∙ ap (λ k. Some (live_peer (new_peer (record { stream = name.Link l; node = k; base = base_of line })))) m_number;
-        consumer = dials_after n v ∙ dial_put kept.nodes n at old new placed is puts.number v _ puts ∙ ap (λ k. Some (live_dial (new_dial (record { link = l; node = k; vb = v; buffer = buffer; takeover = false })))) n_number;
-        up = up_is ∙ ap (λ (x : NodeOut). x.out) handed ∙ ap (λ k. requests (record { link = l; node = k; vb = v; buffer = buffer; takeover = false }) asks) n_number;
+        consumer = dials_after n v ∙ dial_put kept.nodes n at old new placed is puts.number v _ puts ∙ ap (λ k. Some (live_dial (new_dial (record { link = l; node = k; vb = v; buffer = buffer; takeover = takeover })))) n_number;
+        up = up_is ∙ ap (λ (x : NodeOut). x.out) handed ∙ ap (λ k. requests (record { link = l; node = k; vb = v; buffer = buffer; takeover = takeover }) asks) n_number;
         down = refl;
       }
 
-      dialed : WorldStands (record { nodes = nodes''; ids = kept.ids; links = kept.links ++ link ∷ [] }) (link_step w line l m n v buffer).0 × (out_told out ≡ (link_step w line l m n v buffer).1)
+      dialed : WorldStands (record { nodes = nodes''; ids = kept.ids; links = kept.links ++ link ∷ [] }) (link_step w line l m n v buffer takeover).0 × (out_told out ≡ (link_step w line l m n v buffer takeover).1)
       dialed =
-          let outcome = subst (λ r. DialRow w line l m n v buffer r (link_step w line l m n v buffer)) e row in
+          let outcome = subst (λ r. DialRow w line l m n v buffer takeover r (link_step w line l m n v buffer takeover)) e row in
           subst (λ (o : Outcome). WorldStands (record { nodes = nodes''; ids = kept.ids; links = kept.links ++ link ∷ [] }) o.0 × (out_told out ≡ o.1)) (sym outcome) (
             record {
               nodes = same_stands nodes' m m_at m_old m_new m_placed' m_old_is m_puts.number w between (λ x same. opens.0 x same (m_up x same));
@@ -375,26 +375,26 @@ module _ (kept : Kept) (w : PlainWorld) (line l m n v buffer at m_at : ℕ) (old
             ap out_told handed,
           )
 
-    by_refusal : (r : Result StreamAsk Cause) → said ≡ r → (out.answer ≡ answer.Ok → ⊥) → WorldStands (record kept { nodes = nodes' }) (link_step w line l m n v buffer).0 × (out_told out ≡ (link_step w line l m n v buffer).1)
+    by_refusal : (r : Result StreamAsk Cause) → said ≡ r → (out.answer ≡ answer.Ok → ⊥) → WorldStands (record kept { nodes = nodes' }) (link_step w line l m n v buffer takeover).0 × (out_told out ≡ (link_step w line l m n v buffer takeover).1)
     by_refusal (Err why) e not_ok = refused why e
     by_refusal (Ok asks) e not_ok = absurd (not_ok (ap (λ (x : NodeOut). x.answer) (subst (λ r. DialCame named_dial r old out new) e came).0))
 
     by_answer : (r : Result StreamAsk Cause) → said ≡ r → out.answer ≡ answer.Ok → (m_old m_new : ScriptNode) (key : ℕ) → m_old ≡ get_or nodes' m_at m_old → OpensPeer l (base_of line) m_old key m_new → (up : List ℕ) → up ≡ out.out
-        → WorldStands (record { nodes = set nodes' m_at m_new; ids = kept.ids; links = kept.links ++ record { number = l; producer = m; conn = key; node = n; vb = v; up = up; down = [] } ∷ [] }) (link_step w line l m n v buffer).0
-        × (out_told out ≡ (link_step w line l m n v buffer).1)
+        → WorldStands (record { nodes = set nodes' m_at m_new; ids = kept.ids; links = kept.links ++ record { number = l; producer = m; conn = key; node = n; vb = v; up = up; down = [] } ∷ [] }) (link_step w line l m n v buffer takeover).0
+        × (out_told out ≡ (link_step w line l m n v buffer takeover).1)
     by_answer (Err why) e is_ok m_old m_new key m_old_is opens up up_is = let other : answer.No why ≡ answer.Ok = sym (ap (λ (x : NodeOut). x.answer) (subst (λ r. DialCame named_dial r old out new) e came).0) ∙ is_ok in cc
     by_answer (Ok asks) e is_ok m_old m_new key m_old_is opens up up_is = dialed asks e m_old m_new key m_old_is opens up up_is
 
   -- the vBucket is there and does not follow, or the link is taken
-  pub refused_link : (out.answer ≡ answer.Ok → ⊥) → WorldStands (record kept { nodes = nodes' }) (link_step w line l m n v buffer).0 × (out_told out ≡ (link_step w line l m n v buffer).1)
+  pub refused_link : (out.answer ≡ answer.Ok → ⊥) → WorldStands (record kept { nodes = nodes' }) (link_step w line l m n v buffer takeover).0 × (out_told out ≡ (link_step w line l m n v buffer takeover).1)
   refused_link not_ok =
       let (plain, there, alike) = plain_at kept.nodes n at old new placed is w stands.nodes in
       by_refusal plain there alike (after (dial_requested v free) plain.vbs).1 refl not_ok
 
   -- the link is there
   pub dialed_link : out.answer ≡ answer.Ok → (m_old m_new : ScriptNode) (key : ℕ) → m_old ≡ get_or nodes' m_at m_old → OpensPeer l (base_of line) m_old key m_new → (up : List ℕ) → up ≡ out.out
-      → WorldStands (record { nodes = set nodes' m_at m_new; ids = kept.ids; links = kept.links ++ record { number = l; producer = m; conn = key; node = n; vb = v; up = up; down = [] } ∷ [] }) (link_step w line l m n v buffer).0
-      × (out_told out ≡ (link_step w line l m n v buffer).1)
+      → WorldStands (record { nodes = set nodes' m_at m_new; ids = kept.ids; links = kept.links ++ record { number = l; producer = m; conn = key; node = n; vb = v; up = up; down = [] } ∷ [] }) (link_step w line l m n v buffer takeover).0
+      × (out_told out ≡ (link_step w line l m n v buffer takeover).1)
   dialed_link is_ok m_old m_new key m_old_is opens up up_is =
       let (plain, there, alike) = plain_at kept.nodes n at old new placed is w stands.nodes in
       by_answer plain there alike (after (dial_requested v free) plain.vbs).1 refl is_ok m_old m_new key m_old_is opens up up_is

@@ -1,5 +1,5 @@
 -- an id counts as given exactly where a line told of its branch
-use Rattle.std.proofs.Common.{◌≡◌, inl, inr, ℕ, Bool, true, false, List, [], ◌∷◌, ◌++◌, flat_map, filter, refl, ap, sym, ◌∙◌, subst, Option, Some, None}
+use Rattle.std.proofs.Common.{◌≡◌, inl, inr, ℕ, Bool, true, false, List, [], ◌∷◌, ◌++◌, flat_map, filter, map, refl, ap, sym, ◌∙◌, subst, Option, Some, None}
 use Rattle.std.specs.Prelude.{◌==◌, ◌||◌, ◌↔◌, ◌⊎◌, if◌then◌else◌}
 use Rattle.std.specs.List.{list_any}
 use Rattle.std.proofs.lemmas.Bool.{eq-eqb, eqb-true}
@@ -21,7 +21,11 @@ use Rattle.vb_events.specs.declared.event.Event.TheVariants as event
 use Rattle.vb_types.specs.declared.journal.FlushPart.TheVariants as part
 use Rattle.vb_types.specs.declared.role.Role.TheVariants as role
 use Rattle.vbucket.specs.Rows.{row_at}
+use Rattle.vb_calls.specs.Programs.{after}
+use Rattle.vb_calls.specs.States.{States}
+use Rattle.dcp_producer.specs.declared.yields.Yielded.{Yielded}
 use Rattle.node_core.specs.Admin.{AdminResult}
+use Rattle.node_core.specs.GivingUp.{GiveResult, dead_line, peer_gives_up, resolved_in}
 use Rattle.node_core.specs.declared.admin.AdminCall.{AdminCall}
 use Rattle.node_core.specs.declared.admin.AdminCall.TheVariants as admin
 use Rattle.node_world.specs.declared.arm.Fired.{Fired}
@@ -32,11 +36,12 @@ use Rattle.node_world.specs.Causes.{IsGiven}
 use Rattle.node_world.specs.Cuts.{cut_off, own_link, unlinked}
 use Rattle.node_world.specs.Dues.{due_at, due_in, due_of, is_counted}
 use Rattle.node_world.specs.GivenIds.{GivesByLines, GivesNone, TellsBranch}
-use Rattle.node_world.specs.Links.{PlainLink, LinkResult, consumer_node, link_number, producer_node, pump_at, up_at}
+use Rattle.node_world.specs.Links.{PlainLink, LinkResult, consumer_node, link_number, peer_of, producer_node, pump_at, up_at}
 use Rattle.node_world.specs.Nodes.{PlainNode, arm_at, chain_line, clock_at, done, empty_node, first_cause, flush_line, if_up, refusal, refused_or, replica_at, save_line, tick_line, vb_at}
 use Rattle.node_world.specs.Power.{after_broken, after_fire, all_cut, all_unlinked, crash_causes, down_lines, dropped, is_broken_answer, start_at, start_causes, stopped_node, touches, with_arm}
+use Rattle.node_world.specs.Pumps.{gives_at, gone_told, with_given, with_gone, with_yielded}
 use Rattle.node_world.specs.Turns.{admin_line, no_node, posted_at, posted_in, promote_causes, role_called, role_outcome, turn_causes, turned, turned_if, with_ended}
-use Rattle.node_world.specs.World.{ask_in, branch_of_line, client_verb_at, cut_outcome, down_in, down_outcome, link_causes, link_outcome, link_verb_step, node_causes, node_verb_step, on_link, relinked, vb_verb_step, verb_step, with_branches, with_dialed, world_step}
+use Rattle.node_world.specs.World.{ask_in, branch_of_line, client_verb_at, cut_outcome, down_in, down_outcome, link_causes, link_outcome, link_verb_step, node_causes, node_verb_step, on_link, pump_outcome, relinked, vb_verb_step, verb_step, with_branches, with_dialed, world_step}
 use Rattle.node_world.specs.Worlds.{PlainWorld, Outcome, arm_in, node_if, node_outcome, on_made, on_node, with_links, with_node_at}
 use Rattle.node_world.proofs.ClientsTold.{told_uuids}
 use Rattle.node_world.proofs.OnLinks.{closed_uuids}
@@ -175,10 +180,32 @@ down_ids w l wanted = by (row_at link_number l w.links)
     by None = e
     by (Some link) = if_broken (consumer_node link) (is_broken_answer came.1.answer)
 
+-- what a node gives up
+yielded_ids : (n : ℕ) (given : List Yielded) (w : PlainWorld) → (with_given n given w).uuids ≡ w.uuids
+yielded_ids n [] w = refl
+yielded_ids n (one ∷ more) w = yielded_ids n more (with_yielded n w one) ∙ told_uuids n one.vb one.ended w
+
+gone_ids : (link : PlainLink) (node : PlainNode) (w : PlainWorld) (came : States × GiveResult) → (gone_told link node w came).0.uuids ≡ w.uuids
+gone_ids link node w came =
+    let n = producer_node link in
+    let w' = with_gone link node came.0 came.1.peer w in
+    post_ids n (flat_map resolved_in came.1.given) (with_given n came.1.given w', done (map (dead_line n) came.1.given)) ∙ yielded_ids n came.1.given w'
+
+pump_ids : (w : PlainWorld) (l frames : ℕ) → (link_verb_step w l (link_verb.Pump frames)).0.uuids ≡ w.uuids
+pump_ids w l frames = by (row_at link_number l w.links)
+  where
+    gives : (link : PlainLink) (o : Option PlainNode) → (gives_at frames link w o).0.uuids ≡ w.uuids
+    gives link None = refl
+    gives link (Some node) = gone_ids link node w (after (peer_gives_up frames (peer_of link)) node.vbs)
+
+    by : (o : Option PlainLink) → (pump_outcome w l frames o).0.uuids ≡ w.uuids
+    by None = refl
+    by (Some link) = let gave = gives_at frames link w (w.nodes (producer_node link)) in link_ids gave.0 l producer_node (pump_at frames) ∙ gives link (w.nodes (producer_node link))
+
 at_link_ids : (w : PlainWorld) (l : ℕ) (what : LinkVerb) → (link_verb_step w l what).0.uuids ≡ w.uuids
 at_link_ids w l (link_verb.Up wanted) = link_ids w l producer_node (up_at wanted)
 at_link_ids w l (link_verb.Down wanted) = down_ids w l wanted
-at_link_ids w l (link_verb.Pump frames) = link_ids w l producer_node (pump_at frames)
+at_link_ids w l (link_verb.Pump frames) = pump_ids w l frames
 at_link_ids w l link_verb.Cut = by (row_at link_number l w.links)
   where
     by : (o : Option PlainLink) → (cut_outcome w o).0.uuids ≡ w.uuids
@@ -187,7 +214,7 @@ at_link_ids w l link_verb.Cut = by (row_at link_number l w.links)
 
 verb_ids : (w : PlainWorld) (number : ℕ) (line : Verb) → (verb_step w number line).0.uuids ≡ w.uuids
 verb_ids w number (verb.Node n) = unless (first_cause (node_causes w n)) w (with_node_at w n empty_node, done []) refl
-verb_ids w number (verb.Link l m n v buffer) = unless (first_cause (link_causes w l m n v)) w (with_links w (with_dialed number l m n v buffer w.links (ask_in w n v)), done []) refl
+verb_ids w number (verb.Link l m n v buffer takeover) = unless (first_cause (link_causes w l m n v)) w (with_links w (with_dialed number l m n v buffer takeover w.links (ask_in w n v)), done []) refl
 verb_ids w number (verb.AtNode n what) = node_ids w n what
 verb_ids w number (verb.AtVb n v what) = vb_ids w n v what
 verb_ids w number (verb.AtClient n c what) = on_ids w n (client_verb_at n number c what)

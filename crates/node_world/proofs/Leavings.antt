@@ -23,12 +23,12 @@ use Rattle.node_world.specs.declared.script_node.TheConstants.{MAX_CLIENTS}
 use Rattle.node_world.specs.declared.told.Told.{Told}
 use Rattle.node_world.specs.BytesMoved.{given_down}
 use Rattle.node_world.specs.Cuts.{closed_at, unlinked}
-use Rattle.node_world.specs.Leavings.{CrashesOne, CutsOne, DialsQuietly, EndsOnceOver, KeepsBut, LetsClosedGo, NoneIsClosed, PutsDown}
-use Rattle.node_world.specs.Links.{PlainLink, consumer_node, left_unless, link_number, moved_len, producer_node, pump_at, with_down}
+use Rattle.node_world.specs.Leavings.{CrashesOne, CutsOne, DialsQuietly, EndsOnceOver, KeepsBut, LetsClosedGo, NoneIsClosed}
+use Rattle.node_world.specs.Links.{PlainLink, consumer_node, left_unless, link_number, moved_len, producer_node, with_down}
 use Rattle.node_world.specs.Nodes.{PlainNode, all_posted, awaiting, done, bytes_if, first_cause, posted, posted_if, posted_to, refusal, refused_or, with_client, hung_if, pull_if}
 use Rattle.node_world.specs.Power.{all_cut, all_unlinked, crash_causes, down_lines, dropped, stopped_node, touches}
-use Rattle.node_world.specs.World.{ask_in, base_of, client_verb_at, cut_outcome, down_in, link_causes, link_outcome, relinked, with_dialed, with_link}
-use Rattle.node_world.specs.Worlds.{PlainWorld, Outcome, node_if, node_outcome, with_links, with_node_at}
+use Rattle.node_world.specs.World.{ask_in, base_of, client_verb_at, cut_outcome, down_in, link_causes, relinked, with_dialed}
+use Rattle.node_world.specs.Worlds.{PlainWorld, Outcome, node_if, with_links, with_node_at}
 use Rattle.node_world.proofs.BytesMoved.{downs}
 use Rattle.node_world.proofs.CallsMade.{line_is}
 
@@ -68,20 +68,11 @@ cuts_one w l link add_link = record {
   others = λ number m ne. ap (λ o. (cut_outcome w o).0.nodes m) add_link ∙ unlinked_others link w m ne;
 }
 
-pub puts_down : (w : PlainWorld) (l : ℕ) (link : PlainLink) (producer : PlainNode) → row_at link_number l w.links ≡ Some link → w.nodes (producer_node link) ≡ Some producer → PutsDown w l link producer
-puts_down w l link producer add_link from number frames = (
-  _,
-  ap (λ o. (link_outcome w l producer_node (pump_at frames) o).0.links) add_link
-      ∙ ap (λ o. (with_link link (node_outcome w (producer_node link) (Some link, refusal cause.UnknownNode) o (pump_at frames link))).0.links) from,
-  refl,
-  refl,
-)
-
-pub dials_quietly : (w : PlainWorld) (l m n v buffer : ℕ) → DialsQuietly w l m n v buffer
-dials_quietly w l m n v buffer = record { silent = λ number. lines number (first_cause (link_causes w l m n v)); nodes = λ number k. stay number k (first_cause (link_causes w l m n v)) }
+pub dials_quietly : (w : PlainWorld) (l m n v buffer : ℕ) (takeover : Bool) → DialsQuietly w l m n v buffer takeover
+dials_quietly w l m n v buffer takeover = record { silent = λ number. lines number (first_cause (link_causes w l m n v)); nodes = λ number k. stay number k (first_cause (link_causes w l m n v)) }
   where
     dialed : ℕ → Outcome
-    dialed number = (with_links w (with_dialed number l m n v buffer w.links (ask_in w n v)), done [])
+    dialed number = (with_links w (with_dialed number l m n v buffer takeover w.links (ask_in w n v)), done [])
 
     lines : (number : ℕ) (why : Option Cause) → (refused_or why w (dialed number)).1.events ≡ []
     lines number (Some why) = refl

@@ -14,6 +14,7 @@ use Rattle.vb_types.specs.declared.stream.StreamAsk.{StreamAsk}
 use Rattle.vb_calls.specs.declared.calls.VbAnswer.TheVariants as vb_answer
 use Rattle.vb_calls.specs.Following.{is_follower}
 use Rattle.vb_calls.specs.Programs.{Done, after}
+use Rattle.vb_calls.specs.States.{States}
 use Rattle.vb_calls.specs.State.{Plain, quiet_reply, refusal_reply}
 use Rattle.vb_calls.proofs.Readings.{after_bind}
 use Rattle.vb_disk.specs.declared.fuse.Fuse.{Fuse}
@@ -22,16 +23,18 @@ use Rattle.vbucket.specs.Rows.{row_at}
 use Rattle.dcp_producer.specs.Producers.{begun}
 use Rattle.dcp_producer.specs.Pulling.{why_of, frames_put}
 use Rattle.node_core.specs.Calls.{named_ask}
-use Rattle.node_core.specs.Peers.{pull_result}
+use Rattle.node_core.specs.Peers.{PlainPeer, PullResult, peer_pulled, pull_result}
 use Rattle.node_world.specs.declared.arm.Fired.{Fired}
 use Rattle.node_world.specs.declared.arm.Fired.TheVariants as fired
 use Rattle.node_world.specs.Arms.{fired_by}
 use Rattle.node_world.specs.Causes.{AtLink, CantGoBack, Dials, DialsMade, NoLink}
-use Rattle.node_world.specs.Links.{PlainLink, LinkResult, link_number, producer_node, consumer_node, feeds, is_taken, ask_of, moved_len, pump_result, up_at, pump_at}
+use Rattle.node_world.specs.GivesFirst.{GivesFirst, losing_end}
+use Rattle.node_world.specs.Links.{PlainLink, LinkResult, link_number, producer_node, consumer_node, feeds, is_taken, ask_of, moved_len, up_at}
 use Rattle.node_world.specs.Nodes.{PlainNode, done, refusal, first_cause, refused_or}
 use Rattle.node_world.specs.Power.{after_broken, is_broken_answer}
-use Rattle.node_world.specs.World.{ask_in, cut_outcome, down_in, down_outcome, down_step, link_step, link_outcome, on_link, with_dialed, with_link}
+use Rattle.node_world.specs.World.{ask_in, cut_outcome, down_in, down_outcome, down_step, link_step, link_outcome, on_link, pump_outcome, with_dialed, with_link}
 use Rattle.node_world.specs.Worlds.{PlainWorld, Outcome, arm_in, is_off, node_outcome, vb_in, with_links}
+use Rattle.node_world.proofs.GivesFirst.{gives_first}
 
 -- the answer of a line that the first of five causes that holds refuses
 abbrev five : Bool → Bool → Bool → Bool → Bool → Answer
@@ -48,11 +51,11 @@ five_is before came ok false false false false true = refl
 five_is before came ok false false false false false = ok
 
 -- a link that is dialed
-module _ (w : PlainWorld) (l m n v buffer : ℕ) where
+module _ (w : PlainWorld) (l m n v buffer : ℕ) (takeover : Bool) where
   dialed_by : (line : ℕ) (a b c d e : Bool) → not (is_some (w.nodes m) && is_some (w.nodes n)) ≡ a → (is_off (w.nodes m) || is_off (w.nodes n)) ≡ b → not (is_some (vb_in (w.nodes n) v)) ≡ c → not (is_some (ask_in w n v)) ≡ d → is_taken w.links l n v ≡ e
-      → (link_step w line l m n v buffer).1.answer ≡ five a b c d e
+      → (link_step w line l m n v buffer takeover).1.answer ≡ five a b c d e
   dialed_by line a b c d e is_a is_b is_c is_d is_e =
-      let came : Outcome = (with_links w (with_dialed line l m n v buffer w.links (ask_in w n v)), done []) in
+      let came : Outcome = (with_links w (with_dialed line l m n v buffer takeover w.links (ask_in w n v)), done []) in
       (λ i. (refused_or (first_cause ((is_a i, cause.UnknownNode) ∷ (is_b i, cause.NodeDown) ∷ (is_c i, cause.UnknownVb) ∷ (is_d i, cause.WrongRole) ∷ (is_e i, cause.LinkOpen) ∷ [])) w came).1.answer) ∙ five_is w came refl a b c d e
 
   abbrev no_vb : Bool
@@ -98,7 +101,7 @@ module _ (w : PlainWorld) (l m n v buffer : ℕ) where
   follower role.Pending a d = refl
   follower role.Dead a d = absurd (d refl)
 
-  pub dials : Dials w l m n v buffer
+  pub dials : Dials w l m n v buffer takeover
   dials = record {
     no_producer = λ e number. dialed_by number true off no_vb no_ask taken (ap (λ o. not (is_some o && is_some (w.nodes n))) e) refl refl refl refl;
     no_node = λ e number. dialed_by number true off no_vb no_ask taken (ap (λ o. not (is_some (w.nodes m) && is_some o)) e ∙ second (is_some (w.nodes m))) refl refl refl refl;
@@ -119,7 +122,7 @@ module _ (w : PlainWorld) (l m n v buffer : ℕ) where
 
     -- both are running
     linked_by : (vb : Plain) → producer.off ≡ None → node.off ≡ None → node.vbs v ≡ Some vb → (b d : Bool) → is_follower vb.role ≡ b → taken ≡ d → (number : ℕ)
-        → (link_step w number l m n v buffer).1.answer ≡ (if not b then answer.No cause.WrongRole else if d then answer.No cause.LinkOpen else answer.Ok)
+        → (link_step w number l m n v buffer takeover).1.answer ≡ (if not b then answer.No cause.WrongRole else if d then answer.No cause.LinkOpen else answer.Ok)
     linked_by vb up own_up is b d e f number =
         dialed_by number false false false (not b) d nodes_are (off_as_plain ∙ (λ i. is_some (up i) || is_some (own_up i))) (vb_is ∙ ap (λ x. not (is_some x)) is) (asks vb is b e) f
 
@@ -127,7 +130,7 @@ module _ (w : PlainWorld) (l m n v buffer : ℕ) where
     second_off true b e = refl
     second_off false b e = e
 
-    pub dials_made : DialsMade w l m n v buffer producer node
+    pub dials_made : DialsMade w l m n v buffer takeover producer node
     dials_made = record {
       down = λ e number. dialed_by number false true no_vb no_ask taken nodes_are (off_as_plain ∙ ap (λ b. b || is_some node.off) e) refl refl refl;
       own_down = λ e number. dialed_by number false true no_vb no_ask taken nodes_are (off_as_plain ∙ second_off (is_some producer.off) (is_some node.off) e) refl refl refl;
@@ -162,7 +165,7 @@ module _ (w : PlainWorld) (l : ℕ) (none : list_any (λ link. link_number link 
   no_link = record {
     up = λ wanted number. closed producer_node (up_at wanted);
     down = λ wanted number. closed_down wanted;
-    pump = λ frames number. closed producer_node (pump_at frames);
+    pump = λ frames number. ap (λ o. (pump_outcome w l frames o).1.answer) (none_at w.links none);
     cut = λ number. ap (λ o. (cut_outcome w o).1.answer) (none_at w.links none);
   }
 
@@ -234,13 +237,16 @@ module _ (w : PlainWorld) (l : ℕ) (link : PlainLink) (producer node : PlainNod
   at_link = record {
     up = λ wanted number why e. let told : answer.Number (moved_len wanted link.up) ≡ answer.No why = sym (at_end_of producer_node (up_at wanted) producer from) ∙ e in cc;
     down = λ wanted number why e. refused_as wanted why e;
-    pump = λ frames number why e. pumped frames why (sym (at_end_of producer_node (pump_at frames) producer from) ∙ e);
+    pump = λ frames number why e. let g = gives_first w number l frames link producer add_link from in pumped frames (end_of g) g.posted.vbs why (ap (λ (x : States × PullResult). x.1.answer) g.puts ∙ sym g.said ∙ e);
     cut = λ number. ap (λ o. (cut_outcome w o).1.answer) add_link;
   }
     where
-      pumped : (frames : ℕ) (why : Cause) → (pump_at frames link producer).1.1.answer ≡ answer.No why → ⊥
-      pumped frames why e =
-          let put = after (frames_put frames (begun link.server)) producer.vbs in
+      end_of : {frames : ℕ} {came : Outcome} → GivesFirst w link producer frames came → PlainPeer
+      end_of g = record g.gave.peer { producer = losing_end g.gave.given g.gave.peer.producer }
+
+      pumped : (frames : ℕ) (peer : PlainPeer) (states : States) (why : Cause) → (after (peer_pulled frames peer) states).1.answer ≡ answer.No why → ⊥
+      pumped frames peer states why e =
+          let put = after (frames_put frames (begun peer.producer)) states in
           let told : answer.Pulled put.1.0.count (why_of put.1.1) ≡ answer.No why =
-          sym (ap (λ x. (pump_result link producer x).1.1.answer) (after_bind (frames_put frames (begun link.server)) (λ p. Done (pull_result link.up_heard p)) producer.vbs)) ∙ e in
+          sym (ap (λ (x : States × PullResult). x.1.answer) (after_bind (frames_put frames (begun peer.producer)) (λ p. Done (pull_result peer.heard p)) states)) ∙ e in
           cc

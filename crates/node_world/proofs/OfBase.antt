@@ -12,7 +12,6 @@ use Rattle.mcbp_kv.specs.declared.request.KvRequest.TheVariants as request
 use Rattle.vb_events.specs.declared.event.Event.TheVariants as event
 use Rattle.vb_types.specs.declared.status.Status.{Status}
 use Rattle.vb_types.specs.declared.status.Status.TheVariants as status
-use Rattle.vb_types.specs.declared.write.Write.{Write}
 use Rattle.vb_calls.specs.Programs.{Prog, Done, after}
 use Rattle.vb_calls.specs.States.{States}
 use Rattle.vb_calls.specs.declared.calls.Resolution.{Resolution}

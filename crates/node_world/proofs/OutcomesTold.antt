@@ -35,7 +35,12 @@ use Rattle.node_core.specs.Flushing.{FlushResult, flush_result}
 use Rattle.node_core.specs.Peers.{PeerResult, peer_answered, peer_frames, peer_heard}
 use Rattle.node_core.specs.Clients.{PlainClient, client_ended}
 use Rattle.dcp_producer.proofs.Endings.{are_ended}
+use Rattle.std.specs.List.{flat_map}
 use Rattle.std.specs.Option.{option_map}
+use Rattle.script_text.specs.declared.verb.LinkVerb.TheVariants as link_verb
+use Rattle.script_text.specs.declared.verb.Verb.TheVariants as verb
+use Rattle.dcp_producer.specs.declared.yields.Yielded.{Yielded}
+use Rattle.node_core.specs.GivingUp.{GiveResult, peer_gives_up}
 use Rattle.node_world.specs.Indexers.{ClientsTurn, IsTurned, TurnsClients}
 use Rattle.node_world.proofs.ClientsTold.{session_in, told_sessions, told_world}
 use Rattle.node_world.specs.declared.arm.Fired.{Fired}
@@ -46,16 +51,18 @@ use Rattle.node_world.specs.CallsMade.{node_after, reply_of}
 use Rattle.node_world.specs.Causes.{IsFree}
 use Rattle.node_world.specs.Cuts.{closed_at, cut_off, own_link, link_ended, unlinked}
 use Rattle.node_world.specs.Dues.{due_at, due_in, due_of, is_counted}
+use Rattle.node_world.specs.GivesFirst.{losing_client, losing_node}
 use Rattle.node_world.specs.Lines.{ChangesRole}
 use Rattle.node_world.specs.Links.{PlainLink, feeds, frame_up, frames_up, link_number, frame_posted, peer_of, producer_node, untold_peer, up_at}
 use Rattle.node_world.specs.Nodes.{PlainNode, all_posted, first_cause, flush_line, refusal, refused_or, uuid_causes, with_kept, with_states, written, with_clients_ended}
-use Rattle.node_world.specs.OutcomesTold.{EndsTold, IsCut, OutcomesTold, TellsOutcomes, TellsReply, TellsTurn, TurnsAs, RolesTold, UpsTell, changes_of, with_streams_ended}
+use Rattle.node_world.specs.OutcomesTold.{EndsTold, IsCut, OutcomesTold, PumpsTell, TellsOutcomes, TellsReply, TellsTurn, TurnsAs, RolesTold, UpsTell, changes_of, with_streams_ended}
 use Rattle.node_world.specs.Power.{after_fire, down_lines, with_arm}
 use Rattle.node_world.specs.Turns.{called_at, no_node, posted_at, posted_in, promote_step, role_called, role_outcome, after_cuts, turn_step, turned_after, turned_if, with_ended}
-use Rattle.node_world.specs.World.{link_outcome, on_link, with_link}
+use Rattle.node_world.specs.World.{link_outcome, on_link, verb_step, with_link}
 use Rattle.node_world.specs.Worlds.{PlainWorld, Outcome, arm_in, node_if, node_outcome, on_node, with_node_at}
 use Rattle.node_world.proofs.CallsMade.{calls, line_is}
 use Rattle.node_world.proofs.FlushLines.{flushed_as, steps_of}
+use Rattle.node_world.proofs.GivesFirst.{gives_first}
 use Rattle.node_world.proofs.NodeCauses.{not_active, not_dead, not_replica, turned_by}
 use Rattle.node_world.proofs.OwnLinks.{found_none, mapped, same_fed}
 use Rattle.node_world.proofs.Promoting.{active_is}
@@ -425,3 +432,25 @@ module _ (w : PlainWorld) (l : ℕ) (link : PlainLink) (producer : PlainNode) (a
           (tells_if producer (with_states producer answered.0) answered.1.resolved answered.1.events (answered.1.events ++ (all_posted answered.1.resolved (with_states producer answered.0)).1) (λ c. refl) refl)
           (ap (λ (t : Told). t.events) (up_is wanted)
           ∙ ap (λ fs. (frames_up fs begun).1.events) frames ∙ grows ∙ ap (λ (x : States × PeerResult). (x.1.events ++ (all_posted x.1.resolved (with_states producer x.0)).1) ++ later) is)
+
+  -- ---- a pump
+
+  lost_sessions : (given : List Yielded) (o : Option PlainClient) → session_in (option_map (losing_client given) o) ≡ session_in o
+  lost_sessions given None = refl
+  lost_sessions given (Some client) = refl
+
+  pub pumps_tell : PumpsTell w l link producer
+  pumps_tell = record { first = first }
+    where
+      Tells : ℕ → ℕ → GiveResult → Type 0
+      Tells number frames gave =
+          TellsOutcomes producer (flat_map (λ one. one.resolved) gave.given) (map (λ one. event.Role (producer_node link) one.vb role.Dead) gave.given) (verb_step w number (verb.AtLink l (link_verb.Pump frames))).1.events
+
+      first : (number frames : ℕ) → Tells number frames (after (peer_gives_up frames (peer_of link)) producer.vbs).1
+      first number frames =
+          let g = gives_first w number l frames link producer add_link from in
+          let rs = flat_map (λ one. one.resolved) g.gave.given in
+          let before = map (λ one. event.Role (producer_node link) one.vb role.Dead) g.gave.given in
+          subst (Tells number frames) (sym (ap (λ (x : States × GiveResult). x.1) g.gives))
+          (tells_more producer rs before (before ++ g.replies) g.put.events (verb_step w number (verb.AtLink l (link_verb.Pump frames))).1.events
+          (tells_if producer (losing_node g.gave.given g.states producer) rs before (before ++ g.replies) (λ c. lost_sessions g.gave.given (producer.clients c)) (ap (λ (x : PlainNode × List Event). before ++ x.1) (sym g.posts))) g.lines)

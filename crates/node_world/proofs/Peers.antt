@@ -1,5 +1,5 @@
 -- the ends of links that a node keeps: producers under their keys, and dials of its vBuckets
-use Rattle.std.proofs.Common.{◌≡◌, ℕ, Bool, List, refl, sym, ap, ◌∙◌, subst, Option, Some, None, is_some, false}
+use Rattle.std.proofs.Common.{◌≡◌, ℕ, Bool, List, refl, sym, ap, ◌∙◌, subst, Option, Some, None, is_some}
 use Rattle.std.specs.Prelude.{◌&&◌, not, Result, Ok, Err}
 use Rattle.slab.specs.Slab.{Slab, get}
 use Rattle.slab.specs.Slab as slab
@@ -140,8 +140,8 @@ module _ (old : ScriptNode) (v : ℕ) (out : NodeOut) (node : MemNode) where
   same_clients conns k = ap (λ (s : Slab Conn). client_part (get s k)) conns
 
   -- is made
-  pub dials_for : (link buffer : ℕ) (is_free : Bool) → Dialed (alone_step SlotsStand) v link buffer false is_free old.node out node → DialsFor v link buffer is_free old out (inside old node)
-  dials_for link buffer is_free went plain stands up =
+  pub dials_for : (link buffer : ℕ) (takeover is_free : Bool) → Dialed (alone_step SlotsStand) v link buffer takeover is_free old.node out node → DialsFor v link buffer takeover is_free old out (inside old node)
+  dials_for link buffer takeover is_free went plain stands up =
       let asked = dial_requested v (is_free && not (is_some (dial_under old v))) in
       let known = alone_after SlotsStand asked old.node.vbs went.said node.vbs went.ran plain.vbs stands.slots in (
         with_slots old node plain (after asked plain.vbs).0 known.1 (ap (λ (x : MemNode). x.disks) went.rest) (same_clients conns) (off_up old (inside old node) plain.off refl up stands.off) stands,
@@ -155,7 +155,7 @@ module _ (old : ScriptNode) (v : ℕ) (out : NodeOut) (node : MemNode) where
       conns = ap (λ (x : MemNode). x.conns) went.rest
 
       link_dialed : LinkDialed
-      link_dialed = record { link = link; node = node_number old; vb = v; buffer = buffer; takeover = false }
+      link_dialed = record { link = link; node = node_number old; vb = v; buffer = buffer; takeover = takeover }
 
       by : (said : Result StreamAsk Cause) → DialedAs link_dialed said old.node.dials out node.dials → DialCame link_dialed said old out (inside old node)
       by (Err why) h = (h.0, record { number = number; peers = λ key. ap (λ (s : Slab Conn). peer_part (get s key)) conns; dials = λ u. ap (λ rows. value_at rows u) h.1 })

@@ -8,11 +8,12 @@ use Rattle.std.proofs.lemmas.List.Quantifiers.{position-Some}
 use Rattle.vbucket.specs.Rows.{row_at}
 use Rattle.vbucket.proofs.RowsAt.{at_place, at_set, not_placed}
 use Rattle.node_core.specs.Dials.{KeptDial}
+use Rattle.node_core.specs.GivingUp.{GiveResult}
 use Rattle.node_core.specs.Peers.{KeptPeer}
 use Rattle.node_world.specs.declared.script_node.ScriptNode.{ScriptNode}
-use Rattle.node_world.specs.Ends.{peer_under, dial_under, PutsPeer, PutsDial, kept_peer_ended, TellsEnds}
+use Rattle.node_world.specs.Ends.{peer_under, dial_under, PutsPeer, PutsDial, kept_peer_ended, kept_peer_given, TellsEnds, TellsGiven}
 use Rattle.node_world.specs.Nodes.{PlainNode}
-use Rattle.node_world.specs.Stands.{NodeMatch, NodeStands, node_number, NodesStand, peer_in, dial_in, Ends, ends_of}
+use Rattle.node_world.specs.Stands.{NodeMatch, NodeStands, node_number, NodesStand, live_peer, peer_in, dial_in, Ends, ends_of}
 use Rattle.node_world.specs.Worlds.{PlainWorld, node_outcome, node_if, with_node_if}
 use Rattle.node_world.proofs.Rows.{row_number}
 
@@ -167,6 +168,18 @@ module _ (nodes : List ScriptNode) (n at : ℕ) (old new : ScriptNode) (placed :
           by : (b : Bool) → (m == n) ≡ b → (b && other == v) ≡ false → (if b then dial_under new other else before.dials m other) ≡ before.dials m other
           by true e t = puts.others other (eqb-false other v t) ∙ sym (dial_there m other e)
           by false e t = refl
+
+    -- the peer of a key gave vBuckets up, and all peers were told
+    module _ (key : ℕ) (came : GiveResult) (tells : TellsGiven old new key came) where
+      pub peers_given : (m other : ℕ) → after.peers m other
+          ≡ (if m == n then (if other == key then Some (kept_peer_given came.given (live_peer came.peer)) else option_map (kept_peer_given came.given) (before.peers m other)) else before.peers m other)
+      peers_given m other = peers_after m other ∙ by (m == n) (other == key) refl refl
+        where
+          by : (a b : Bool) → (m == n) ≡ a → (other == key) ≡ b
+              → (if a then peer_under new other else before.peers m other) ≡ (if a then (if b then Some (kept_peer_given came.given (live_peer came.peer)) else option_map (kept_peer_given came.given) (before.peers m other)) else before.peers m other)
+          by true true e f = ap (peer_under new) (eqb-true other key f) ∙ tells.own
+          by true false e f = tells.others other (eqb-false other key f) ∙ ap (option_map (kept_peer_given came.given)) (sym (peer_there m other e))
+          by false b e f = refl
 
     -- its peers were told of a change of role at a vBucket, whose dial is let go
     module _ (v : ℕ) (ended : Option (List ℕ)) (tells : TellsEnds old new v ended) where

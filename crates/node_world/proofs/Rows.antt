@@ -1,5 +1,5 @@
 -- lists of rows that have a number: a row set, and a row taken out
-use Rattle.std.proofs.Common.{◌≡◌, ℕ, Bool, true, false, List, [], ◌∷◌, length, get_or, set, remove, refl, ap, sym, ◌∙◌, Option, Some, None, zero, suc, ◌<◌, arith}
+use Rattle.std.proofs.Common.{◌≡◌, ℕ, Bool, true, false, List, [], ◌∷◌, length, get_or, map, set, remove, refl, ap, sym, ◌∙◌, Option, Some, None, zero, suc, ◌<◌, arith}
 use Rattle.std.specs.Prelude.{◌==◌, if◌then◌else◌}
 use Rattle.std.proofs.lemmas.Bool.{eq-eqb, eqb-true}
 use Rattle.vbucket.specs.Rows.{row_at, row_put, row_out}
@@ -48,3 +48,36 @@ module _ {S : Type 0} (number : S → ℕ) where
       by : (b : Bool) → (number x == v) ≡ b → (if b then Some x else row_at number v xs) ≡ Some s → (row_at number v xs ≡ Some s → row_at number v (row_put number v t xs) ≡ Some t) → row_at number v (if b then t ∷ xs else x ∷ row_put number v t xs) ≡ Some t
       by true here found later = ap (λ b. if b then Some t else row_at number v xs) (eq-eqb (number t) v is)
       by false away found later = ap (λ b. if b then Some x else row_at number v (row_put number v t xs)) away ∙ later found
+
+  -- a row put in its own place
+  pub put_same : (v : ℕ) (xs : List S) (s : S) → row_at number v xs ≡ Some s → row_put number v s xs ≡ xs
+  put_same v [] s e = refl
+  put_same v (x ∷ xs) s e = by (number x == v) e (λ found. put_same v xs s found)
+    where
+      by : (b : Bool) → (if b then Some x else row_at number v xs) ≡ Some s → (row_at number v xs ≡ Some s → row_put number v s xs ≡ xs) → (if b then s ∷ xs else x ∷ row_put number v s xs) ≡ x ∷ xs
+      by true found later = let is : x ≡ s = cc in ap (λ y. y ∷ xs) (sym is)
+      by false found later = ap (λ ys. x ∷ ys) (later found)
+
+  module _ (v : ℕ) (f : S → S) (keeps : (s : S) → number (f s) ≡ number s) where
+    -- rows that become others under their numbers: the row of a number does
+    pub map_found : (xs : List S) (s : S) → row_at number v xs ≡ Some s → row_at number v (map f xs) ≡ Some (f s)
+    map_found [] s e = cc
+    map_found (x ∷ xs) s e = ap (λ k. if k == v then Some (f x) else row_at number v (map f xs)) (keeps x) ∙ by (number x == v) e (λ found. map_found xs s found)
+      where
+        by : (b : Bool) → (if b then Some x else row_at number v xs) ≡ Some s → (row_at number v xs ≡ Some s → row_at number v (map f xs) ≡ Some (f s)) → (if b then Some (f x) else row_at number v (map f xs)) ≡ Some (f s)
+        by true found later = let is : x ≡ s = cc in ap (λ y. Some (f y)) is
+        by false found later = later found
+
+    -- and one that was put before is put over
+    pub put_over : (xs : List S) (s t : S) → number s ≡ v → row_put number v t (map f (row_put number v s xs)) ≡ row_put number v t (map f xs)
+    put_over [] s t is = refl
+    put_over (x ∷ xs) s t is = by (number x == v) refl (put_over xs s t is)
+      where
+        by : (b : Bool) → (number x == v) ≡ b → row_put number v t (map f (row_put number v s xs)) ≡ row_put number v t (map f xs) → row_put number v t (map f (if b then s ∷ xs else x ∷ row_put number v s xs)) ≡ row_put number v t (f x ∷ map f xs)
+        by true e later =
+            ap (λ c. if c then t ∷ map f xs else f s ∷ row_put number v t (map f xs)) (eq-eqb (number (f s)) v (keeps s ∙ is))
+            ∙ sym (ap (λ c. if c then t ∷ map f xs else f x ∷ row_put number v t (map f xs)) (ap (λ k. k == v) (keeps x) ∙ e))
+        by false e later =
+            ap (λ c. if c then t ∷ map f (row_put number v s xs) else f x ∷ row_put number v t (map f (row_put number v s xs))) (ap (λ k. k == v) (keeps x) ∙ e)
+            ∙ ap (λ ys. f x ∷ ys) later
+            ∙ sym (ap (λ c. if c then t ∷ map f xs else f x ∷ row_put number v t (map f xs)) (ap (λ k. k == v) (keeps x) ∙ e))

@@ -1,6 +1,6 @@
 -- no arm is left over a disk behind a line
 use Rattle.std.specs.Prelude.{◌==◌, if◌then◌else◌}
-use Rattle.std.proofs.Common.{◌≡◌, ℕ, Bool, true, false, List, [], ◌∷◌, ◌++◌, filter, flat_map, length, take, refl, ap, sym, subst, Option, Some, None, is_some, find, option_map}
+use Rattle.std.proofs.Common.{◌≡◌, ℕ, Bool, true, false, List, [], ◌∷◌, ◌++◌, filter, flat_map, length, map, take, refl, ap, sym, subst, Option, Some, None, is_some, find, option_map}
 use Rattle.std.proofs.lemmas.Bool.{eqb-true}
 use Rattle.disk_journals.specs.Arms.{opens_all}
 use Rattle.disk_journals.specs.Books.{Book, opened_shelf}
@@ -14,6 +14,7 @@ use Rattle.script_text.specs.declared.verb.NodeVerb.TheVariants as node_verb
 use Rattle.script_text.specs.declared.verb.LinkVerb.TheVariants as link_verb
 use Rattle.script_text.specs.declared.verb.ClientVerb.TheVariants as client_verb
 use Rattle.vb_calls.specs.Programs.{after}
+use Rattle.vb_calls.specs.States.{States}
 use Rattle.vb_calls.specs.Jobs.{after_job}
 use Rattle.vb_calls.specs.declared.calls.Resolved.{Resolved}
 use Rattle.vb_calls.specs.Shelves.{Append, Shelf, Shelves}
@@ -27,7 +28,9 @@ use Rattle.vb_types.specs.declared.journal.Record.TheVariants.{State}
 use Rattle.vb_types.specs.declared.role.Role.{Role}
 use Rattle.vb_types.specs.declared.role.Role.TheVariants as role
 use Rattle.vbucket.specs.Rows.{row_at}
+use Rattle.dcp_producer.specs.declared.yields.Yielded.{Yielded}
 use Rattle.node_core.specs.Admin.{AdminResult, admin_job}
+use Rattle.node_core.specs.GivingUp.{GiveResult, dead_line, peer_gives_up, resolved_in}
 use Rattle.node_core.specs.Dials.{dial_due, dial_bytes}
 use Rattle.node_core.specs.Flushing.{FlushResult, chain_changed, flush_at, ticked}
 use Rattle.node_core.specs.Peers.{PeerResult, peer_answered, peer_frames, peer_heard}
@@ -41,10 +44,11 @@ use Rattle.node_world.specs.Dues.{due_at, due_in, due_of, is_counted}
 use Rattle.node_world.specs.Links.{PlainLink, LinkResult, dial_of, frame_up, frames_up, link_number, moved_len, peer_of, producer_node, consumer_node, down_at, pump_at, untold_peer, up_at}
 use Rattle.node_world.specs.Nodes.{PlainNode, all_posted, arm_at, bytes_at, chain_causes, chain_line, chain_made, client_at, clock_at, done, empty_node, bytes_if, first_cause, flush_line, hang_at, hung_if, if_up, pull_at, pull_if, refusal, refused_or, replica_at, replica_causes, save_line, shelf_or_blank, tick_line, vb_at, vb_causes, vb_made, vb_noted, with_clients_ended, with_disk, with_kept, with_states}
 use Rattle.node_world.specs.Power.{after_broken, after_fire, all_cut, all_unlinked, burnt_arm, crash_causes, down_lines, dropped, is_broken_answer, loaded_node, not_opened, opened_at, start_at, start_call, start_causes, start_if, start_one, started_by, starts_from, stopped_node, touches, with_arm, with_broken}
+use Rattle.node_world.specs.Pumps.{gives_at, gone_told, with_given, with_gone, with_yielded}
 use Rattle.node_world.specs.Rests.{Rests, RestsIf}
 use Rattle.node_world.specs.Stands.{IdsStand, Kept, LinksStand, NodesStand, WorldStands, ends_of}
 use Rattle.node_world.specs.Turns.{admin_line, called_at, no_node, posted_at, posted_in, promote_causes, promote_step, role_called, role_outcome, turn_causes, turn_step, turned, turned_if, with_ended}
-use Rattle.node_world.specs.World.{ask_in, base_of, branch_of_line, cut_outcome, down_in, down_outcome, down_step, group_with, link_causes, link_outcome, node_causes, on_link, relinked, verb_step, with_dialed, world_step}
+use Rattle.node_world.specs.World.{ask_in, base_of, branch_of_line, cut_outcome, down_in, down_outcome, down_step, group_with, link_causes, link_outcome, node_causes, on_link, pump_outcome, pump_step, relinked, verb_step, with_dialed, world_step}
 use Rattle.node_world.specs.Worlds.{PlainWorld, Outcome, arm_in, empty_world, node_if, node_outcome, on_made, on_node, shelf_in, with_links, with_node_at, with_node_if}
 use Rattle.node_world.specs.declared.arm.Fired.{Fired}
 use Rattle.node_world.specs.declared.arm.Fired.TheVariants as fired
@@ -298,6 +302,37 @@ posted_rests n rs came rests = by (came.0.nodes n) refl
     by None there = rests
     by (Some node) there = node_rests came.0 n (all_posted rs node).0 rests (λ v. posts_keep v rs node (subst (λ o. RestsIf (shelf_in o v)) there (rests n v)))
 
+-- producers are told which streams ended
+told_rests : (n v : ℕ) (ids : List ℕ) (w : PlainWorld) → Rests w → Rests (with_ended n v ids w)
+told_rests n v ids w known = at (w.nodes n) refl
+  where
+    at : (o : Option PlainNode) → w.nodes n ≡ o → Rests (with_links (node_if n (with_clients_ended v ids) w o) (links_ended n v ids w.links))
+    at None there = known
+    at (Some node) there = node_rests w n (with_clients_ended v ids node) known (λ u. subst (λ o. RestsIf (shelf_in o u)) there (known n u))
+
+-- what a node gives up
+yielded_rests : (n : ℕ) (given : List Yielded) (w : PlainWorld) → Rests w → Rests (with_given n given w)
+yielded_rests n [] w rests = rests
+yielded_rests n (one ∷ more) w rests = yielded_rests n more (with_yielded n w one) (told_rests n one.vb one.ended w rests)
+
+pump_rests : (w : PlainWorld) (l frames : ℕ) → Rests w → Rests (pump_step w l frames).0
+pump_rests w l frames rests = by (row_at link_number l w.links)
+  where
+    gone : (link : PlainLink) (node : PlainNode) (came : States × GiveResult) → w.nodes (producer_node link) ≡ Some node → Rests (gone_told link node w came).0
+    gone link node came there =
+        let n = producer_node link in
+        let w' = with_gone link node came.0 came.1.peer w in
+        posted_rests n (flat_map resolved_in came.1.given) (with_given n came.1.given w', done (map (dead_line n) came.1.given))
+        (yielded_rests n came.1.given w' (node_rests w n (with_states node came.0) rests (λ v. subst (λ o. RestsIf (shelf_in o v)) there (rests n v))))
+
+    gives : (link : PlainLink) (o : Option PlainNode) → w.nodes (producer_node link) ≡ o → Rests (gives_at frames link w o).0
+    gives link None there = rests
+    gives link (Some node) there = gone link node (after (peer_gives_up frames (peer_of link)) node.vbs) there
+
+    by : (o : Option PlainLink) → Rests (pump_outcome w l frames o).0
+    by None = rests
+    by (Some link) = link_rests (gives_at frames link w (w.nodes (producer_node link))).0 l producer_node (pump_at frames) (gives link (w.nodes (producer_node link)) refl) (λ link v node h. h)
+
 -- a change of role
 role_rests : (w : PlainWorld) (n v : ℕ) (asked : AdminCall) → Rests w → Rests (role_outcome n v asked w).0
 role_rests w n v asked rests = by came.1.ended
@@ -308,20 +343,13 @@ role_rests w n v asked rests = by came.1.ended
     known : Rests came.0
     known = made_rests w n no_node (role_called n v asked) rests (role_keeps n v asked)
 
-    told : (ids : List ℕ) → Rests (with_ended n v ids came.0)
-    told ids = at (came.0.nodes n) refl
-      where
-        at : (o : Option PlainNode) → came.0.nodes n ≡ o → Rests (with_links (node_if n (with_clients_ended v ids) came.0 o) (links_ended n v ids came.0.links))
-        at None there = known
-        at (Some node) there = node_rests came.0 n (with_clients_ended v ids node) known (λ u. subst (λ o. RestsIf (shelf_in o u)) there (known n u))
-
     own : (w' : PlainWorld) → Rests w' → (o : Option PlainLink) → Rests (cut_off o w').0
     own w' h None = h
     own w' h (Some link) = unlinked_rests link w' h
 
     by : (o : Option (List ℕ)) → Rests (turned_if n v w o came).0
     by None = rests
-    by (Some ids) = let w' = with_ended n v ids came.0 in posted_rests n came.1.resolved (turned n v came.1 w') (own w' (told ids) (own_link n v w'.links))
+    by (Some ids) = let w' = with_ended n v ids came.0 in posted_rests n came.1.resolved (turned n v came.1 w') (own w' (told_rests n v ids came.0 known) (own_link n v w'.links))
 
 -- what its own link acknowledges
 due_rests : (n v : ℕ) (came : Outcome) → Rests came.0 → Rests (due_in n v came).0
@@ -351,10 +379,10 @@ verb_rests w line (verb.AtClient n c (client_verb.Bytes bytes)) rests = line_res
 verb_rests w line (verb.AtClient n c client_verb.Hang) rests = line_rests w n (hang_at c) rests (hang_keeps c)
 verb_rests w line (verb.AtClient n c (client_verb.Pull frames)) rests = line_rests w n (pull_at c frames) rests (pull_keeps c frames)
 verb_rests w line (verb.AtNode n (node_verb.Clock nanos)) rests = line_rests w n (clock_at nanos) rests (λ v node h. h)
-verb_rests w line (verb.Link l m n v buffer) rests = refused_rests (first_cause (link_causes w l m n v)) w (with_links w (with_dialed line l m n v buffer w.links (ask_in w n v)), done []) rests rests
+verb_rests w line (verb.Link l m n v buffer takeover) rests = refused_rests (first_cause (link_causes w l m n v)) w (with_links w (with_dialed line l m n v buffer takeover w.links (ask_in w n v)), done []) rests rests
 verb_rests w line (verb.AtLink l (link_verb.Up wanted)) rests = link_rests w l producer_node (up_at wanted) rests (moved_keeps wanted)
 verb_rests w line (verb.AtLink l (link_verb.Down wanted)) rests = down_rests w l wanted rests
-verb_rests w line (verb.AtLink l (link_verb.Pump frames)) rests = link_rests w l producer_node (pump_at frames) rests (λ link v node h. h)
+verb_rests w line (verb.AtLink l (link_verb.Pump frames)) rests = pump_rests w l frames rests
 verb_rests w line (verb.AtLink l link_verb.Cut) rests = cut_rests w (row_at link_number l w.links) rests
 verb_rests w line (verb.AtVb n v (vb_verb.Promote uuid)) rests =
     arm_rests w n (promote_step w n v uuid) (refused_rests (first_cause (promote_causes w n v uuid)) w (role_outcome n v (admin.Promote uuid) w) rests (role_rests w n v (admin.Promote uuid) rests))

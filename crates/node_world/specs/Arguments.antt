@@ -1,12 +1,11 @@
 -- what lines that make, open, dial and arm make of their arguments
-use Rattle.std.specs.Prelude.{◌≡◌, ◌≢◌, ◌<◌, ◌+◌, ◌%◌, ℕ, [], ◌∷◌, ◌++◌, Some, None, false}
+use Rattle.std.specs.Prelude.{◌≡◌, ◌≢◌, ◌<◌, ◌+◌, ◌%◌, Bool, ℕ, [], ◌∷◌, ◌++◌, Some, None}
 use Rattle.dcp_producer.specs.Ending.{end_closed}
 use Rattle.node_core.specs.Clients.{PlainClient, client_pulled}
 use Rattle.dcp_consumer.specs.Dialing.{requests}
 use Rattle.script_text.specs.declared.verb.Verb.TheVariants as verb
 use Rattle.script_text.specs.declared.verb.VbVerb.TheVariants as vb_verb
 use Rattle.script_text.specs.declared.verb.NodeVerb.TheVariants as node_verb
-use Rattle.script_text.specs.declared.verb.LinkVerb.TheVariants as link_verb
 use Rattle.script_text.specs.declared.verb.ClientVerb.TheVariants as client_verb
 use Rattle.vb_disk.specs.declared.fuse.Fuse.{Fuse}
 use Rattle.vb_disk.specs.declared.fuse.Fuse.TheVariants as fuse
@@ -21,10 +20,9 @@ use Rattle.vb_calls.specs.declared.calls.VbCall.TheVariants as call
 use Rattle.vb_calls.specs.Programs.{after}
 use Rattle.vb_calls.specs.State.{Plain, new_vb}
 use Rattle.vb_calls.specs.States.{States}
-use Rattle.node_core.specs.Peers.{peer_pulled}
 use Rattle.node_world.specs.CallsMade.{reply_of}
 use Rattle.node_world.specs.Causes.{IsFree, Notes}
-use Rattle.node_world.specs.Links.{PlainLink, peer_of}
+use Rattle.node_world.specs.Links.{PlainLink}
 use Rattle.node_world.specs.Nodes.{PlainNode, shelf_or_blank}
 use Rattle.node_world.specs.World.{verb_step}
 use Rattle.node_world.specs.Worlds.{PlainWorld, Outcome}
@@ -68,17 +66,13 @@ pub record PassesVbs (w : PlainWorld) (n : ℕ) (node : PlainNode) : Type 0 wher
       → (now : PlainNode) × MakesVb n v role.Active uuid node now (verb_step w number (verb.AtVb n v (vb_verb.MakeActive uuid)))
   pub replica : (number v : ℕ) → node.vbs v ≡ None → node.made < 64 → Notes node (shelf_or_blank (node.shelves v)) → (now : PlainNode) × MakesVb n v role.Replica 0 node now (verb_step w number (verb.AtVb n v vb_verb.MakeReplica))
 
--- a link that is dialed has both its ends as its line says: a consumer of the vBucket v of the node n, which asks for a window of this size, and a producer at the node m, whose streams are numbered by the line's number; and what that vBucket asks for goes up
-pub record DialsAs (number l m n v buffer : ℕ) (ask : StreamAsk) (link : PlainLink) : Type 0 where
-  pub consumer : link.consumer.dialed ≡ record { link = l; node = n; vb = v; buffer = buffer; takeover = false }
+-- a link that is dialed has both its ends as its line says: a consumer of the vBucket v of the node n, which asks for a window of this size and follows or takes over, and a producer at the node m, whose streams are numbered by the line's number; and what that vBucket asks for goes up
+pub record DialsAs (number l m n v buffer : ℕ) (takeover : Bool) (ask : StreamAsk) (link : PlainLink) : Type 0 where
+  pub consumer : link.consumer.dialed ≡ record { link = l; node = n; vb = v; buffer = buffer; takeover = takeover }
   pub producer : link.server.desk ≡ record { stream = name.Link l; node = m; base = number % 4294967296 }
-  pub up : link.up ≡ requests (record { link = l; node = n; vb = v; buffer = buffer; takeover = false }) ask
+  pub up : link.up ≡ requests (record { link = l; node = n; vb = v; buffer = buffer; takeover = takeover }) ask
   pub down : link.down ≡ []
 
 abbrev pub PassesDials : PlainWorld → ℕ → ℕ → PlainNode → Plain → Type 0
-PassesDials w n v node vb = (number l m buffer : ℕ) (ask : StreamAsk) → (reply_of vb call.Ask).answer ≡ answer.Named ask → (verb_step w number (verb.Link l m n v buffer)).1.answer ≡ line.Ok
-    → (link : PlainLink) × ((verb_step w number (verb.Link l m n v buffer)).0.links ≡ w.links ++ link ∷ []) × DialsAs number l m n v buffer ask link
-
--- so many frames are asked of the producer of an open link
-abbrev pub PassesFrames : PlainWorld → ℕ → PlainLink → PlainNode → Type 0
-PassesFrames w l link producer = (number frames : ℕ) → let put = (after (peer_pulled frames (peer_of link)) producer.vbs).1 in (verb_step w number (verb.AtLink l (link_verb.Pump frames))).1 ≡ record { events = put.events; answer = put.answer }
+PassesDials w n v node vb = (number l m buffer : ℕ) (takeover : Bool) (ask : StreamAsk) → (reply_of vb call.Ask).answer ≡ answer.Named ask → (verb_step w number (verb.Link l m n v buffer takeover)).1.answer ≡ line.Ok
+    → (link : PlainLink) × ((verb_step w number (verb.Link l m n v buffer takeover)).0.links ≡ w.links ++ link ∷ []) × DialsAs number l m n v buffer takeover ask link

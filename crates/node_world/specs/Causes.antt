@@ -1,5 +1,5 @@
 -- why lines are refused, in the words of the world, the earlier causes denied
-use Rattle.std.specs.Prelude.{◌≡◌, ◌≢◌, ◌≤◌, ◌<◌, ◌+◌, ◌*◌, ℕ, ◌==◌, true, false, List, ◌∷◌, ◌++◌, length, Some, None, is_some}
+use Rattle.std.specs.Prelude.{◌≡◌, ◌≢◌, ◌≤◌, ◌<◌, ◌+◌, ◌*◌, ℕ, ◌==◌, Bool, true, false, List, ◌∷◌, ◌++◌, length, Some, None, is_some}
 use Rattle.std.specs.List.{list_any}
 use Rattle.node_core.specs.Clients.{PlainClient}
 use Rattle.disk_journals.specs.Arms.{opens_all, under}
@@ -218,21 +218,21 @@ Follows vb = (vb.role ≢ role.Active) × (vb.role ≢ role.Dead)
 abbrev pub MayLink : PlainWorld → ℕ → ℕ → ℕ → Type 0
 MayLink w l n v = (list_any (λ link. link_number link == l) w.links ≡ false) × (list_any (feeds n v) w.links ≡ false)
 
--- `link L M N V BUF follow`, whatever BUF is
-pub record Dials (w : PlainWorld) (l m n v buffer : ℕ) : Type 0 where
-  pub no_producer : w.nodes m ≡ None → RefusedFor w cause.UnknownNode (verb.Link l m n v buffer)
-  pub no_node : w.nodes n ≡ None → RefusedFor w cause.UnknownNode (verb.Link l m n v buffer)
+-- `link L M N V BUF follow` and `link L M N V BUF takeover`, whatever BUF is
+pub record Dials (w : PlainWorld) (l m n v buffer : ℕ) (takeover : Bool) : Type 0 where
+  pub no_producer : w.nodes m ≡ None → RefusedFor w cause.UnknownNode (verb.Link l m n v buffer takeover)
+  pub no_node : w.nodes n ≡ None → RefusedFor w cause.UnknownNode (verb.Link l m n v buffer takeover)
 
 -- the same between nodes that are made
-pub record DialsMade (w : PlainWorld) (l m n v buffer : ℕ) (producer node : PlainNode) : Type 0 where
-  pub down : is_some producer.off ≡ true → RefusedFor w cause.NodeDown (verb.Link l m n v buffer)
-  pub own_down : is_some node.off ≡ true → RefusedFor w cause.NodeDown (verb.Link l m n v buffer)
-  pub no_vb : producer.off ≡ None → node.off ≡ None → node.vbs v ≡ None → RefusedFor w cause.UnknownVb (verb.Link l m n v buffer)
-  pub active : (vb : Plain) → producer.off ≡ None → node.off ≡ None → node.vbs v ≡ Some vb → vb.role ≡ role.Active → RefusedFor w cause.WrongRole (verb.Link l m n v buffer)
-  pub dead : (vb : Plain) → producer.off ≡ None → node.off ≡ None → node.vbs v ≡ Some vb → vb.role ≡ role.Dead → RefusedFor w cause.WrongRole (verb.Link l m n v buffer)
-  pub taken : (vb : Plain) → producer.off ≡ None → node.off ≡ None → node.vbs v ≡ Some vb → Follows vb → list_any (λ link. link_number link == l) w.links ≡ true → RefusedFor w cause.LinkOpen (verb.Link l m n v buffer)
-  pub fed : (vb : Plain) → producer.off ≡ None → node.off ≡ None → node.vbs v ≡ Some vb → Follows vb → list_any (feeds n v) w.links ≡ true → RefusedFor w cause.LinkOpen (verb.Link l m n v buffer)
-  pub dials : (vb : Plain) → producer.off ≡ None → node.off ≡ None → node.vbs v ≡ Some vb → Follows vb → MayLink w l n v → AnsweredAs w answer.Ok (verb.Link l m n v buffer)
+pub record DialsMade (w : PlainWorld) (l m n v buffer : ℕ) (takeover : Bool) (producer node : PlainNode) : Type 0 where
+  pub down : is_some producer.off ≡ true → RefusedFor w cause.NodeDown (verb.Link l m n v buffer takeover)
+  pub own_down : is_some node.off ≡ true → RefusedFor w cause.NodeDown (verb.Link l m n v buffer takeover)
+  pub no_vb : producer.off ≡ None → node.off ≡ None → node.vbs v ≡ None → RefusedFor w cause.UnknownVb (verb.Link l m n v buffer takeover)
+  pub active : (vb : Plain) → producer.off ≡ None → node.off ≡ None → node.vbs v ≡ Some vb → vb.role ≡ role.Active → RefusedFor w cause.WrongRole (verb.Link l m n v buffer takeover)
+  pub dead : (vb : Plain) → producer.off ≡ None → node.off ≡ None → node.vbs v ≡ Some vb → vb.role ≡ role.Dead → RefusedFor w cause.WrongRole (verb.Link l m n v buffer takeover)
+  pub taken : (vb : Plain) → producer.off ≡ None → node.off ≡ None → node.vbs v ≡ Some vb → Follows vb → list_any (λ link. link_number link == l) w.links ≡ true → RefusedFor w cause.LinkOpen (verb.Link l m n v buffer takeover)
+  pub fed : (vb : Plain) → producer.off ≡ None → node.off ≡ None → node.vbs v ≡ Some vb → Follows vb → list_any (feeds n v) w.links ≡ true → RefusedFor w cause.LinkOpen (verb.Link l m n v buffer takeover)
+  pub dials : (vb : Plain) → producer.off ≡ None → node.off ≡ None → node.vbs v ≡ Some vb → Follows vb → MayLink w l n v → AnsweredAs w answer.Ok (verb.Link l m n v buffer takeover)
 
 -- why bytes for a consumer are refused, by the arm of its node: its vBucket can't go back, since the journal was closed before, the call that the arm hit failed, or the node stopped inside it
 abbrev pub CantGoBack : Fuse → Cause → Type 0
@@ -257,7 +257,7 @@ pub record CausesInOrder (w : PlainWorld) : Type 0 where
   pub at_node : (n : ℕ) (node : PlainNode) → w.nodes n ≡ Some node → node.off ≡ None → AtNode w n node
   pub at_made_vb : (n v : ℕ) (node : PlainNode) (vb : Plain) → w.nodes n ≡ Some node → node.off ≡ None → node.vbs v ≡ Some vb → AtVb w n v vb
   pub at_shelf : (n v : ℕ) (node : PlainNode) (vb : Plain) (shelf : Shelf) → w.nodes n ≡ Some node → node.off ≡ None → node.vbs v ≡ Some vb → node.shelves v ≡ Some shelf → Notes node shelf → AtShelf w n v vb shelf
-  pub dials : (l m n v buffer : ℕ) → Dials w l m n v buffer
-  pub dials_made : (l m n v buffer : ℕ) (producer node : PlainNode) → w.nodes m ≡ Some producer → w.nodes n ≡ Some node → DialsMade w l m n v buffer producer node
+  pub dials : (l m n v buffer : ℕ) (takeover : Bool) → Dials w l m n v buffer takeover
+  pub dials_made : (l m n v buffer : ℕ) (takeover : Bool) (producer node : PlainNode) → w.nodes m ≡ Some producer → w.nodes n ≡ Some node → DialsMade w l m n v buffer takeover producer node
   pub no_link : (l : ℕ) → list_any (λ link. link_number link == l) w.links ≡ false → NoLink w l
   pub at_link : (l : ℕ) (link : PlainLink) (producer node : PlainNode) → row_at link_number l w.links ≡ Some link → w.nodes (producer_node link) ≡ Some producer → w.nodes (consumer_node link) ≡ Some node → AtLink w l node

@@ -1,6 +1,6 @@
 -- what lines make of a node that is kept, and of the ends of links that it keeps
 use Rattle.std.specs.Prelude.{◌≡◌, ◌≢◌, ℕ, ◌==◌, ◌&&◌, not, Bool, true, false, List, [], ◌++◌, Option, Some, None, is_some, if◌then◌else◌, get_or, Result, Ok, Err}
-use Rattle.std.specs.List.{position, remove}
+use Rattle.std.specs.List.{fold, position, remove}
 use Rattle.std.specs.Option.{option_map}
 use Rattle.slab.specs.Slab.{get}
 use Rattle.vb_events.specs.declared.event.StreamName.TheVariants as name
@@ -10,12 +10,14 @@ use Rattle.vb_calls.specs.Jobs.{after_job}
 use Rattle.vb_calls.specs.Programs.{after}
 use Rattle.dcp_consumer.specs.Dialing.{requests}
 use Rattle.dcp_consumer.specs.declared.handshake.Dialed.{Dialed}
+use Rattle.dcp_producer.specs.declared.yields.Yielded.{Yielded}
 use Rattle.dcp_producer.specs.Ending.{end_closed}
 use Rattle.node_core.specs.declared.admin.AdminCall.{AdminCall}
 use Rattle.node_core.specs.declared.out.NodeOut.{NodeOut}
 use Rattle.node_core.specs.Calls.{dial_requested}
 use Rattle.node_core.specs.Clients.{PlainClient, KeptClient, client_ended}
 use Rattle.node_core.specs.Dials.{PlainDial, KeptDial, DialResult, new_dial, dial_bytes, dial_due}
+use Rattle.node_core.specs.GivingUp.{GiveResult, given_out, peer_gives_up}
 use Rattle.node_core.specs.Outcomes.{value_at, live_dial, dial_left}
 use Rattle.node_core.specs.Outs.{refused_out, done_out, pull_out, dial_out, cut_out, dial_ended, admin_out}
 use Rattle.node_core.specs.Peers.{PlainPeer, KeptPeer, new_peer, peer_pulled, peer_ended}
@@ -137,6 +139,33 @@ PullsPeer key frames old out new = (plain : PlainNode) (peer : PlainPeer) → No
     let (states, told) = after (peer_pulled frames peer) plain.vbs in
     NodeMatch new (with_states plain states) × (out ≡ pull_out told) × PutsPeer old new key (Some (live_peer told.peer))
 
+-- a peer, once vBuckets were given up: it is told which streams ended with each
+abbrev pub kept_peer_yielded : KeptPeer → Yielded → KeptPeer
+kept_peer_yielded kept one = kept_peer_ended one.vb (Some one.ended) kept
+
+abbrev pub kept_peer_given : List Yielded → KeptPeer → KeptPeer
+kept_peer_given given kept = fold kept_peer_yielded kept given
+
+-- and so is the node, of its clients
+abbrev pub with_clients_yielded : PlainNode → Yielded → PlainNode
+with_clients_yielded node one = with_clients_told one.vb (Some one.ended) node
+
+abbrev pub with_clients_given : List Yielded → PlainNode → PlainNode
+with_clients_given given node = fold with_clients_yielded node given
+
+-- the peer under a key gave vBuckets up, and each peer, also itself, is told which streams ended with that; the dials stay
+pub record TellsGiven (old new : ScriptNode) (key : ℕ) (came : GiveResult) : Type 0 where
+  pub number : node_number new ≡ node_number old
+  pub own : peer_under new key ≡ Some (kept_peer_given came.given (live_peer came.peer))
+  pub others : (other : ℕ) → other ≢ key → peer_under new other ≡ option_map (kept_peer_given came.given) (peer_under old other)
+  pub dials : (v : ℕ) → dial_under new v ≡ dial_under old v
+
+-- the streams of the producer under a key give vBuckets up, in front of so many frames
+abbrev pub GivesPeer : ℕ → ℕ → ScriptNode → NodeOut → ScriptNode → Type 0
+GivesPeer key frames old out new = (plain : PlainNode) (peer : PlainPeer) → NodeMatch old plain → peer_under old key ≡ Some (live_peer peer) →
+    let (states, came) = after (peer_gives_up frames peer) plain.vbs in
+    NodeMatch new (with_clients_given came.given (with_states plain states)) × (out ≡ given_out (node_number old) came.given) × TellsGiven old new key came
+
 -- the producer under a key answers a frame, and what became of durable writes with it is told to who awaits it
 abbrev pub AnswersPeer : ℕ → Frame → ScriptNode → NodeOut → ScriptNode → Type 0
 AnswersPeer key f old out new = (plain : PlainNode) (peer : PlainPeer) → NodeMatch old plain → peer_under old key ≡ Some (live_peer peer) →
@@ -173,11 +202,11 @@ abbrev pub DialCame : Dialed → Result StreamAsk Cause → ScriptNode → NodeO
 DialCame dialed (Err why) old out new = (out ≡ refused_out why) × KeepsEnds old new
 DialCame dialed (Ok ask) old out new = (out ≡ done_out [] (requests dialed ask)) × PutsDial old new dialed.vb (Some (live_dial (new_dial dialed)))
 
--- the vBucket v of a node that is running dials, as the consumer of a link, with a window of this size
-abbrev pub DialsFor : ℕ → ℕ → ℕ → Bool → ScriptNode → NodeOut → ScriptNode → Type 0
-DialsFor v link buffer is_free old out new = (plain : PlainNode) → NodeMatch old plain → plain.off ≡ None →
+-- the vBucket v of a node that is running dials, as the consumer of a link, with a window of this size, to follow or to take over
+abbrev pub DialsFor : ℕ → ℕ → ℕ → Bool → Bool → ScriptNode → NodeOut → ScriptNode → Type 0
+DialsFor v link buffer takeover is_free old out new = (plain : PlainNode) → NodeMatch old plain → plain.off ≡ None →
     let (states, said) = after (dial_requested v (is_free && not (is_some (dial_under old v)))) plain.vbs in
-    NodeMatch new (with_states plain states) × DialCame (record { link = link; node = node_number old; vb = v; buffer = buffer; takeover = false }) said old out new
+    NodeMatch new (with_states plain states) × DialCame (record { link = link; node = node_number old; vb = v; buffer = buffer; takeover = takeover }) said old out new
 
 -- a node after bytes for a dial of it
 abbrev pub dial_given : List ℕ → PlainDial → PlainNode → PlainNode × DialResult

@@ -1,5 +1,5 @@
 -- what a line leaves of links, of connections, and of other nodes
-use Rattle.std.specs.Prelude.{◌≡◌, ◌≢◌, ℕ, List, [], ◌∷◌, ◌++◌, false, None, Some}
+use Rattle.std.specs.Prelude.{◌≡◌, ◌≢◌, Bool, ℕ, List, [], ◌∷◌, false, None, Some}
 use Rattle.node_core.specs.Clients.{PlainClient}
 use Rattle.script_text.specs.declared.verb.Verb.TheVariants as verb
 use Rattle.script_text.specs.declared.verb.ClientVerb.{ClientVerb}
@@ -10,13 +10,11 @@ use Rattle.vb_events.specs.declared.event.Answer.TheVariants as line
 use Rattle.vb_events.specs.declared.event.EndReason.{EndReason}
 use Rattle.vb_events.specs.declared.event.EndReason.TheVariants as reason
 use Rattle.vb_events.specs.declared.event.Event.TheVariants as event
-use Rattle.vb_calls.specs.Programs.{after}
 use Rattle.vb_calls.specs.declared.calls.Resolved.{Resolved}
 use Rattle.vbucket.specs.Rows.{row_out, row_put}
 use Rattle.dcp_consumer.specs.Machine.{over_why}
-use Rattle.node_core.specs.Peers.{peer_pulled}
 use Rattle.node_world.specs.BytesMoved.{given_down}
-use Rattle.node_world.specs.Links.{PlainLink, link_number, peer_of, producer_node}
+use Rattle.node_world.specs.Links.{PlainLink, link_number, producer_node}
 use Rattle.node_world.specs.Nodes.{PlainNode, all_posted}
 use Rattle.node_world.specs.World.{verb_step}
 use Rattle.node_world.specs.Worlds.{PlainWorld}
@@ -36,15 +34,10 @@ pub record CutsOne (w : PlainWorld) (l : ℕ) (link : PlainLink) : Type 0 where
   pub links : (number : ℕ) → (verb_step w number (verb.AtLink l link_verb.Cut)).0.links ≡ row_out link_number (link_number link) w.links
   pub others : (number m : ℕ) → m ≢ producer_node link → (verb_step w number (verb.AtLink l link_verb.Cut)).0.nodes m ≡ w.nodes m
 
--- `pump` puts its frames behind what is on its way down, and nothing goes up
-abbrev pub PutsDown : PlainWorld → ℕ → PlainLink → PlainNode → Type 0
-PutsDown w l link producer = (number frames : ℕ) → (now : PlainLink) × ((verb_step w number (verb.AtLink l (link_verb.Pump frames))).0.links ≡ row_put link_number (link_number link) now w.links)
-    × (now.down ≡ link.down ++ (after (peer_pulled frames (peer_of link)) producer.vbs).1.out) × (now.up ≡ link.up)
-
 -- a dial tells of nothing, and leaves all nodes
-pub record DialsQuietly (w : PlainWorld) (l m n v buffer : ℕ) : Type 0 where
-  pub silent : (number : ℕ) → (verb_step w number (verb.Link l m n v buffer)).1.events ≡ []
-  pub nodes : (number k : ℕ) → (verb_step w number (verb.Link l m n v buffer)).0.nodes k ≡ w.nodes k
+pub record DialsQuietly (w : PlainWorld) (l m n v buffer : ℕ) (takeover : Bool) : Type 0 where
+  pub silent : (number : ℕ) → (verb_step w number (verb.Link l m n v buffer takeover)).1.events ≡ []
+  pub nodes : (number k : ℕ) → (verb_step w number (verb.Link l m n v buffer takeover)).0.nodes k ≡ w.nodes k
 
 -- ---- connections
 

@@ -7,6 +7,7 @@ pub mod Worlds
 pub mod Cuts
 pub mod Dues
 pub mod Turns
+pub mod Pumps
 pub mod Power
 pub mod World
 pub mod Lines
@@ -35,5 +36,6 @@ pub mod StartsRefused
 pub mod MadeOnes
 pub mod FramesUp
 pub mod Leavings
+pub mod GivesFirst
 pub mod Buffers
 pub mod Indexers

@@ -1,5 +1,5 @@
 -- links between nodes: a consumer's end at one, the producer's end at another, and the bytes between them
-use Rattle.std.specs.Prelude.{ℕ, ◌%◌, ◌^◌, ◌==◌, ◌&&◌, ◌||◌, if◌then◌else◌, Bool, min, List, [], ◌∷◌, ◌++◌, length, take, drop, Option, Some, None, false}
+use Rattle.std.specs.Prelude.{ℕ, ◌%◌, ◌^◌, ◌==◌, ◌&&◌, ◌||◌, if◌then◌else◌, Bool, min, List, [], ◌∷◌, ◌++◌, length, take, drop, Option, Some, None}
 use Rattle.std.specs.List.{list_any}
 use Rattle.vb_events.specs.declared.event.Event.{Event}
 use Rattle.vb_events.specs.declared.event.StreamName.TheVariants as name
@@ -69,13 +69,13 @@ ask_of vb = named_ask (ask_row vb).answer
 abbrev pub base_of : ℕ → ℕ
 base_of line = line % 2 ^ 32
 
--- the link l from the vBucket v of the node n to the node m, whose consumer asks for a window of this size; the streams of its producer are numbered by the script's line
-abbrev pub new_link : ℕ → ℕ → ℕ → ℕ → ℕ → ℕ → StreamAsk → PlainLink
-new_link line l m n v buffer ask = record {
+-- the link l from the vBucket v of the node n to the node m, whose consumer asks for a window of this size, and to take the vBucket over or to follow; the streams of its producer are numbered by the script's line
+abbrev pub new_link : ℕ → ℕ → ℕ → ℕ → ℕ → ℕ → Bool → StreamAsk → PlainLink
+new_link line l m n v buffer takeover ask = record {
   server = new_end (record { stream = name.Link l; node = m; base = base_of line });
-  consumer = dialed_consumer (record { link = l; node = n; vb = v; buffer = buffer; takeover = false });
+  consumer = dialed_consumer (record { link = l; node = n; vb = v; buffer = buffer; takeover = takeover });
   up_heard = [];
-  up = requests (record { link = l; node = n; vb = v; buffer = buffer; takeover = false }) ask;
+  up = requests (record { link = l; node = n; vb = v; buffer = buffer; takeover = takeover }) ask;
   down_heard = [];
   down = [];
 }

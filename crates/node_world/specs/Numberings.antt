@@ -1,5 +1,5 @@
 -- numbers that keep waits, streams and connections apart
-use Rattle.std.specs.Prelude.{◌≡◌, ◌≢◌, ◌<◌, ◌+◌, ◌*◌, ◌%◌, ℕ, [], Some, None}
+use Rattle.std.specs.Prelude.{◌≡◌, ◌≢◌, ◌<◌, ◌+◌, ◌*◌, ◌%◌, Bool, ℕ, [], Some, None}
 use Rattle.client_session.specs.Serving.{PlainSession, next_waiter}
 use Rattle.node_core.specs.Clients.{PlainClient}
 use Rattle.dcp_producer.specs.Producers.{PlainProducer}
@@ -36,10 +36,10 @@ pub record OpensApart (w : PlainWorld) (line n c : ℕ) : Type 0 where
       × (client.session.who.base ≡ line % 4294967296) × (client.session.used ≡ 0) × (client.session.awaited ≡ None) × (client.producer.desk.base ≡ line % 4294967296) × (client.producer.streams ≡ []) × (client.producer.asked ≡ 0)
 
 -- a new link has its own number; its producer has the base of the line, no stream yet, and a number for the first one; and its consumer's first request for one has the opaque 4, or 5 where it asks for a window
-pub record LinksAreApart (line l m n v buffer : ℕ) (ask : StreamAsk) : Type 0 where
-  pub number : link_number (new_link line l m n v buffer ask) ≡ l
-  pub base : (new_link line l m n v buffer ask).server.desk.base ≡ line % 4294967296
-  pub streams : ((new_link line l m n v buffer ask).server.streams ≡ []) × ((new_link line l m n v buffer ask).server.asked ≡ 0)
-  pub first : next_stream (new_link line l m n v buffer ask).server ≡ line % 4294967296 * 4294967296 + 1
-  pub opaque : buffer ≡ 0 → (new_link line l m n v buffer ask).consumer.asked ≡ 4
-  pub later : buffer ≢ 0 → (new_link line l m n v buffer ask).consumer.asked ≡ 5
+pub record LinksAreApart (line l m n v buffer : ℕ) (takeover : Bool) (ask : StreamAsk) : Type 0 where
+  pub number : link_number (new_link line l m n v buffer takeover ask) ≡ l
+  pub base : (new_link line l m n v buffer takeover ask).server.desk.base ≡ line % 4294967296
+  pub streams : ((new_link line l m n v buffer takeover ask).server.streams ≡ []) × ((new_link line l m n v buffer takeover ask).server.asked ≡ 0)
+  pub first : next_stream (new_link line l m n v buffer takeover ask).server ≡ line % 4294967296 * 4294967296 + 1
+  pub opaque : buffer ≡ 0 → (new_link line l m n v buffer takeover ask).consumer.asked ≡ 4
+  pub later : buffer ≢ 0 → (new_link line l m n v buffer takeover ask).consumer.asked ≡ 5

@@ -1,5 +1,6 @@
 -- each line that may settle durable writes tells the client that waits
 use Rattle.std.specs.Prelude.{◌≡◌, ◌≢◌, ◌⊎◌, ◌==◌, if◌then◌else◌, ℕ, List, [], ◌∷◌, ◌++◌, filter, map, min, length, take, true, Option, Some}
+use Rattle.std.specs.List.{flat_map}
 use Rattle.client_session.specs.declared.session.Awaited.{Awaited}
 use Rattle.client_session.specs.Conduct.{sent}
 use Rattle.client_session.specs.Rows.{IsOutcome}
@@ -24,6 +25,7 @@ use Rattle.vb_calls.specs.Programs.{after}
 use Rattle.vb_calls.specs.Shelves.{Shelf, Written}
 use Rattle.vb_calls.specs.State.{Plain}
 use Rattle.vb_calls.specs.States.{States}
+use Rattle.node_core.specs.GivingUp.{peer_gives_up}
 use Rattle.node_core.specs.Peers.{PeerResult, peer_answered, peer_frames, peer_heard}
 use Rattle.node_world.specs.CallsMade.{reply_of}
 use Rattle.node_world.specs.Causes.{IsFree, MayJoin}
@@ -87,6 +89,11 @@ pub record UpsTell (w : PlainWorld) (l : ℕ) (link : PlainLink) (producer : Pla
   pub first : (number wanted : ℕ) (f : Frame) (more : List Frame) (answered : States × PeerResult) →
       let piece = take (min wanted (length link.up)) link.up in peer_frames piece (peer_of link) ≡ f ∷ more → after (peer_answered f (peer_heard piece (peer_of link))) producer.vbs ≡ answered
       → TellsOutcomes producer answered.1.resolved answered.1.events (verb_step w number (verb.AtLink l (link_verb.Up wanted))).1.events
+
+-- a pump: what became of durable writes as vBuckets were given up is told behind the lines of all of these
+pub record PumpsTell (w : PlainWorld) (l : ℕ) (link : PlainLink) (producer : PlainNode) : Type 0 where
+  pub first : (number frames : ℕ) → let gave = (after (peer_gives_up frames (peer_of link)) producer.vbs).1 in
+      TellsOutcomes producer (flat_map (λ one. one.resolved) gave.given) (map (λ one. event.Role (producer_node link) one.vb role.Dead) gave.given) (verb_step w number (verb.AtLink l (link_verb.Pump frames))).1.events
 
 -- a link whose producer is at the node n, once that was told that these streams of the vBucket v ended
 abbrev pub with_streams_ended : ℕ → ℕ → List ℕ → PlainLink → PlainLink

@@ -31,6 +31,7 @@ use Rattle.node_world.specs.Power.{crash_step, start_step, with_arm, with_broken
 pub use Rattle.node_world.specs.Worlds.{PlainWorld, empty_world, with_node_at, with_links, Outcome, node_outcome, on_made, on_node, is_off, shelf_in, vb_in}
 use Rattle.node_world.specs.Cuts.{unlinked}
 use Rattle.node_world.specs.Dues.{done_step}
+use Rattle.node_world.specs.Pumps.{gives_at}
 use Rattle.node_world.specs.Turns.{promote_step, turn_step, admin_line}
 pub use Rattle.node_world.specs.Links.{base_of}
 use Rattle.node_world.specs.Links.{PlainLink, LinkResult, link_number, producer_node, consumer_node, is_taken, ask_of, new_link, up_at, down_at, pump_at}
@@ -51,21 +52,21 @@ vb_step w n v uuid = with_arm n w (on_node w n (vb_at w.uuids n v uuid))
 abbrev pub ask_in : PlainWorld → ℕ → ℕ → Option StreamAsk
 ask_in w n v = option_and_then ask_of (vb_in (w.nodes n) v)
 
--- `link L M N V BUF follow`: the causes to refuse it, in their order
+-- `link L M N V BUF follow` and `link L M N V BUF takeover`: the causes to refuse it, in their order
 abbrev pub link_causes : PlainWorld → ℕ → ℕ → ℕ → ℕ → List (Bool × Cause)
 link_causes w l m n v =
     (not (is_some (w.nodes m) && is_some (w.nodes n)), cause.UnknownNode) ∷ (is_off (w.nodes m) || is_off (w.nodes n), cause.NodeDown) ∷ (not (is_some (vb_in (w.nodes n) v)), cause.UnknownVb)
     ∷ (not (is_some (ask_in w n v)), cause.WrongRole) ∷ (is_taken w.links l n v, cause.LinkOpen) ∷ []
 
 -- the links with one more, by what its consumer's vBucket asks for; the third cause is that it asks for nothing
-abbrev pub with_dialed : ℕ → ℕ → ℕ → ℕ → ℕ → ℕ → List PlainLink → Option StreamAsk → List PlainLink
-with_dialed line l m n v buffer links None = links
-with_dialed line l m n v buffer links (Some ask) = links ++ new_link line l m n v buffer ask ∷ []
+abbrev pub with_dialed : ℕ → ℕ → ℕ → ℕ → ℕ → ℕ → Bool → List PlainLink → Option StreamAsk → List PlainLink
+with_dialed line l m n v buffer takeover links None = links
+with_dialed line l m n v buffer takeover links (Some ask) = links ++ new_link line l m n v buffer takeover ask ∷ []
 
--- `link L M N V BUF follow`: the consumer of the node N's vBucket V dials the node M, and asks for a window of BUF bytes there
-abbrev pub link_step : PlainWorld → ℕ → ℕ → ℕ → ℕ → ℕ → ℕ → Outcome
-link_step w line l m n v buffer =
-    refused_or (first_cause (link_causes w l m n v)) w (with_links w (with_dialed line l m n v buffer w.links (ask_in w n v)), done [])
+-- `link L M N V BUF follow` and `link L M N V BUF takeover`: the consumer of the node N's vBucket V dials the node M, to follow its vBucket or to take it over, and asks for a window of BUF bytes there
+abbrev pub link_step : PlainWorld → ℕ → ℕ → ℕ → ℕ → ℕ → ℕ → Bool → Outcome
+link_step w line l m n v buffer takeover =
+    refused_or (first_cause (link_causes w l m n v)) w (with_links w (with_dialed line l m n v buffer takeover w.links (ask_in w n v)), done [])
 
 -- the world after a line for a link: it goes on as it is then, or it is over, and its streams are closed
 abbrev pub relinked : PlainLink → Option PlainLink → PlainWorld → PlainWorld
@@ -100,6 +101,23 @@ down_outcome w l (Some link) came = with_broken (consumer_node link) l w came
 
 abbrev pub down_step : PlainWorld → ℕ → ℕ → Outcome
 down_step w l wanted = down_outcome w l (row_at link_number l w.links) (on_link w l consumer_node (down_in wanted))
+
+-- what is told of a line, behind what was told before its own work
+abbrev pub told_behind : List Event → Outcome → Outcome
+told_behind before (w, told) = (w, record told { events = before ++ told.events })
+
+-- frames of the link l are put once vBuckets were given up, and told behind that
+abbrev pub put_behind : ℕ → ℕ → Outcome → Outcome
+put_behind l frames (w, gave) = told_behind gave.events (on_link w l producer_node (pump_at frames))
+
+-- `pump L K`: of the link, which must be open, the producer's node gives up vBuckets whose time came, and then frames are put
+abbrev pub pump_outcome : PlainWorld → ℕ → ℕ → Option PlainLink → Outcome
+pump_outcome w l frames None = (w, refusal cause.LinkClosed)
+pump_outcome w l frames (Some link) = put_behind l frames (gives_at frames link w (w.nodes (producer_node link)))
+
+-- `pump L K`
+abbrev pub pump_step : PlainWorld → ℕ → ℕ → Outcome
+pump_step w l frames = pump_outcome w l frames (row_at link_number l w.links)
 
 -- `cut L`: the link, which must be open, is cut
 abbrev pub cut_outcome : PlainWorld → Option PlainLink → Outcome
@@ -146,13 +164,13 @@ client_verb_at n line c (client_verb.Pull frames) = pull_at c frames
 abbrev pub link_verb_step : PlainWorld → ℕ → LinkVerb → Outcome
 link_verb_step w l (link_verb.Up wanted) = on_link w l producer_node (up_at wanted)
 link_verb_step w l (link_verb.Down wanted) = down_step w l wanted
-link_verb_step w l (link_verb.Pump frames) = on_link w l producer_node (pump_at frames)
+link_verb_step w l (link_verb.Pump frames) = pump_step w l frames
 link_verb_step w l link_verb.Cut = cut_step w l
 
 -- the world after the line of this number, by what its verb names
 abbrev pub verb_step : PlainWorld → ℕ → Verb → Outcome
 verb_step w line (verb.Node n) = node_step w n
-verb_step w line (verb.Link l m n v buffer) = link_step w line l m n v buffer
+verb_step w line (verb.Link l m n v buffer takeover) = link_step w line l m n v buffer takeover
 verb_step w line (verb.AtNode n what) = node_verb_step w n what
 verb_step w line (verb.AtVb n v what) = vb_verb_step w n v what
 verb_step w line (verb.AtClient n c what) = on_node w n (client_verb_at n line c what)

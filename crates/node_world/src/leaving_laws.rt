@@ -1,12 +1,12 @@
 //! What a line leaves behind it: ids, disks, counts, links and connections. Each law is a function with
 //! no work to do.
-ghost use Rattle.std.specs.Prelude.{◌≡◌, ℕ, List, None, Some};
+ghost use Rattle.std.specs.Prelude.{◌≡◌, Bool, ℕ, List, None, Some};
 ghost use Rattle.client_session.specs.declared.session.Awaited.{Awaited as AwaitedData};
 ghost use Rattle.node_core.specs.Clients.{PlainClient};
 ghost use Rattle.disk_journals.specs.Books.{Book as BookData};
 ghost use Rattle.node_world.specs.FramesUp.{PassesFaults, PostsBetween, ServesBehind};
 ghost use Rattle.node_world.specs.GivenIds.{GivesByLines, GivesNone};
-ghost use Rattle.node_world.specs.Leavings.{CrashesOne, CutsOne, DialsQuietly, EndsOnceOver, LetsClosedGo, PutsDown};
+ghost use Rattle.node_world.specs.Leavings.{CrashesOne, CutsOne, DialsQuietly, EndsOnceOver, LetsClosedGo};
 ghost use Rattle.node_world.specs.Links.{PlainLink, consumer_node, link_number, producer_node};
 ghost use Rattle.node_world.specs.MadeOnes.{MakesAnyway};
 ghost use Rattle.node_world.specs.Nodes.{PlainNode};
@@ -50,12 +50,11 @@ pub fn faults_are_passed()
 {}
 
 /// A link is let go by `down` exactly where its dial is over then. `cut` tells of its own link's end and
-/// takes out that link alone; `pump` puts frames behind those on their way; and a dial tells nothing.
+/// takes out that link alone; and a dial tells nothing.
 pub fn links_go_once_over()
     ensures downs { (w : PlainWorld) (l : ℕ) (link : PlainLink) (node : PlainNode) → row_at link_number l w.links ≡ Some link → w.nodes (consumer_node link) ≡ Some node → EndsOnceOver w l link node }
     ensures cuts { (w : PlainWorld) (l : ℕ) (link : PlainLink) → row_at link_number l w.links ≡ Some link → CutsOne w l link }
-    ensures pumps { (w : PlainWorld) (l : ℕ) (link : PlainLink) (producer : PlainNode) → row_at link_number l w.links ≡ Some link → w.nodes (producer_node link) ≡ Some producer → PutsDown w l link producer }
-    ensures dials { (w : PlainWorld) (l m n v buffer : ℕ) → DialsQuietly w l m n v buffer }
+    ensures dials { (w : PlainWorld) (l m n v buffer : ℕ) (takeover : Bool) → DialsQuietly w l m n v buffer takeover }
 {}
 
 /// A connection that its bytes closed, or an outcome, is no client's any more: where no connection of a

@@ -14,6 +14,8 @@ mod owed_laws;
 mod plumbing_laws;
 mod posts;
 mod power;
+mod pump_laws;
+mod pumps;
 mod script_node;
 mod told;
 mod world;
@@ -39,6 +41,7 @@ pub use plumbing_laws::{
     buffers_become_windows, ends_are_links, failures_are_told, lines_are_told_in_order,
     numberings_are_apart,
 };
+pub use pump_laws::pumps_give_up_first;
 pub use script_node::{NodeLine, ScriptNode};
 pub use told::Told;
 pub use world::World;

@@ -4,14 +4,14 @@ ghost use Rattle.std.specs.Prelude.{◌≡◌, ℕ, List, None, Some};
 ghost use Rattle.node_core.specs.Clients.{PlainClient};
 ghost use Rattle.disk_journals.specs.Books.{Book as BookData};
 ghost use Rattle.mcbp_frame.specs.declared.frame.Frame.{Frame as Framed};
-ghost use Rattle.node_world.specs.Arguments.{PassesArms, PassesClients, PassesDials, PassesFrames, PassesVbs};
+ghost use Rattle.node_world.specs.Arguments.{PassesArms, PassesClients, PassesDials, PassesVbs};
 ghost use Rattle.node_world.specs.BytesMoved.{BytesMoved};
 ghost use Rattle.node_world.specs.CallsMade.{CallsMade};
 ghost use Rattle.node_world.specs.Clocked.{Clocked, IsOne};
 ghost use Rattle.node_world.specs.Counted.{Counted};
 ghost use Rattle.node_world.specs.Links.{PlainLink, consumer_node, link_number, producer_node};
 ghost use Rattle.node_world.specs.Nodes.{PlainNode};
-ghost use Rattle.node_world.specs.OutcomesTold.{EndsTold, OutcomesTold, RolesTold, UpsTell};
+ghost use Rattle.node_world.specs.OutcomesTold.{EndsTold, OutcomesTold, PumpsTell, RolesTold, UpsTell};
 ghost use Rattle.node_world.specs.Owed.{AcknowledgesDue, batch_done};
 ghost use Rattle.node_world.specs.StartIds.{TakesIds};
 ghost use Rattle.node_world.specs.World.{verb_step};
@@ -35,15 +35,14 @@ pub fn lines_are_calls()
     ensures { (w : PlainWorld) (n v : ℕ) (node : PlainNode) (vb : Plain) → w.nodes n ≡ Some node → node.off ≡ None → node.vbs v ≡ Some vb → CallsMade w n v node vb }
 {}
 
-/// A line that makes, opens, dials, pumps or arms does so with just what it says: a connection is opened under
-/// its numbers, a vBucket is made in its role and on its branch, a link is dialed between its nodes, so many
-/// frames are asked for, and a node is armed for that call.
+/// A line that makes, opens, dials or arms does so with just what it says: a connection is opened under its
+/// numbers, a vBucket is made in its role and on its branch, a link is dialed between its nodes, to follow or
+/// to take over, and a node is armed for that call.
 pub fn lines_pass_their_arguments()
     ensures clients { (w : PlainWorld) (n : ℕ) (node : PlainNode) → w.nodes n ≡ Some node → node.off ≡ None → PassesClients w n node }
     ensures arms { (w : PlainWorld) (n : ℕ) (node : PlainNode) → w.nodes n ≡ Some node → PassesArms w n node }
     ensures vbs { (w : PlainWorld) (n : ℕ) (node : PlainNode) → w.nodes n ≡ Some node → node.off ≡ None → PassesVbs w n node }
     ensures dials { (w : PlainWorld) (n v : ℕ) (node : PlainNode) (vb : Plain) → w.nodes n ≡ Some node → node.vbs v ≡ Some vb → PassesDials w n v node vb }
-    ensures frames { (w : PlainWorld) (l : ℕ) (link : PlainLink) (producer : PlainNode) → row_at link_number l w.links ≡ Some link → w.nodes (producer_node link) ≡ Some producer → PassesFrames w l link producer }
 {}
 
 /// A change of role tells of the role that its line names, and a promotion first of the branch of the id
@@ -55,11 +54,12 @@ pub fn roles_are_as_named()
 {}
 
 /// What a line settles is told to the client that waits: behind the changes of a chain, of a tick and of
-/// a batch that is done, behind a change of role, and behind what the producer told of a frame that
-/// went up.
+/// a batch that is done, behind a change of role, behind what the producer told of a frame that went up,
+/// and behind the vBuckets that a pump gave up.
 pub fn settled_ones_are_told()
     ensures lines { (w : PlainWorld) (n v : ℕ) (node : PlainNode) (vb : Plain) → w.nodes n ≡ Some node → node.off ≡ None → node.vbs v ≡ Some vb → OutcomesTold w n v node vb }
     ensures ups { (w : PlainWorld) (l : ℕ) (link : PlainLink) (producer : PlainNode) → row_at link_number l w.links ≡ Some link → w.nodes (producer_node link) ≡ Some producer → UpsTell w l link producer }
+    ensures pumps { (w : PlainWorld) (l : ℕ) (link : PlainLink) (producer : PlainNode) → row_at link_number l w.links ≡ Some link → w.nodes (producer_node link) ≡ Some producer → PumpsTell w l link producer }
 {}
 
 /// `up` and `down` move all bytes that are wanted, or all that there are where these are fewer, and

@@ -1,6 +1,6 @@
 //! What holds of numberings, and of what a line tells beside what its node did. Each law is a
 //! function with no work to do.
-ghost use Rattle.std.specs.Prelude.{ℕ};
+ghost use Rattle.std.specs.Prelude.{Bool, ℕ};
 ghost use Rattle.client_session.specs.Serving.{PlainSession};
 ghost use Rattle.dcp_producer.specs.Producers.{PlainProducer};
 ghost use Rattle.node_world.specs.Buffers.{BuffersBecomeWindows, BuffersInNumbers};
@@ -28,14 +28,14 @@ pub fn numberings_are_apart()
     ensures streams { (p q : PlainProducer) → StreamsAreApart p q }
     ensures bases { (line other : ℕ) → BasesAreApart line other }
     ensures opened { (w : PlainWorld) (line n c : ℕ) → OpensApart w line n c }
-    ensures links { (line l m n v buffer : ℕ) (ask : StreamAsk) → LinksAreApart line l m n v buffer ask }
+    ensures links { (line l m n v buffer : ℕ) (takeover : Bool) (ask : StreamAsk) → LinksAreApart line l m n v buffer takeover ask }
 {}
 
 /// The BUF of a line that dials is what the link's consumer asks for, right behind OPEN, and what its
 /// producer's window has once that came up, and not before. With 0 nothing is asked for.
 pub fn buffers_become_windows()
-    ensures lines { (w : PlainWorld) (l m n v buffer : ℕ) → BuffersBecomeWindows w l m n v buffer }
-    ensures numbers { (line l m v : ℕ) (ask : StreamAsk) (producer : PlainNode) → BuffersInNumbers line l m v ask producer }
+    ensures lines { (w : PlainWorld) (l m n v buffer : ℕ) (takeover : Bool) → BuffersBecomeWindows w l m n v buffer takeover }
+    ensures numbers { (line l m v : ℕ) (takeover : Bool) (ask : StreamAsk) (producer : PlainNode) → BuffersInNumbers line l m v takeover ask producer }
 {}
 
 /// An arm fires once, as it was to. A call that failed is told behind all else, and before the end of

@@ -456,11 +456,18 @@ impl ScriptNode {
         self.node.shut(conn);
     }
 
-    /// Dials for a vBucket, as the consumer of a link.
-    pub fn dial(&mut self, v: u16, link: u32, buffer: u32, is_free: bool) -> Alloc<NodeOut>
-        ensures { IfOk result (λ out. DialsFor v link buffer is_free self.old out self.new) }
+    /// Dials for a vBucket, as the consumer of a link, to follow or to take over.
+    pub fn dial(
+        &mut self,
+        v: u16,
+        link: u32,
+        buffer: u32,
+        takeover: bool,
+        is_free: bool,
+    ) -> Alloc<NodeOut>
+        ensures { IfOk result (λ out. DialsFor v link buffer takeover is_free self.old out self.new) }
     {
-        self.node.dial(v, link, buffer, false, is_free)
+        self.node.dial(v, link, buffer, takeover, is_free)
     }
 
     /// Gives a link's consumer the next bytes from its producer, under the arm: its vBucket may have

@@ -1,7 +1,8 @@
 //! What is told of a script line.
-ghost use Rattle.std.specs.Prelude.{◌≡◌};
+ghost use Rattle.std.specs.Prelude.{◌≡◌, ◌++◌, IfOk};
 ghost use Rattle.{node_world.specs.Lines.{moved_if, out_told, named_cause}, node_world.specs.Links.{moved}, node_world.specs.Nodes.{done, refusal}};
 
+use crate::Alloc;
 use node_core::NodeOut;
 use std::alloc::Global;
 use vb_events::{Answer, Cause, Event};
@@ -66,6 +67,17 @@ impl Told {
             events: out.events,
             answer: out.answer,
         }
+    }
+
+    /// The same, behind what was told before.
+    pub fn behind(self, mut before: Listed<Event>) -> Alloc<Told>
+        ensures { IfOk result (λ told. told ≡ record { events = before ++ self.events; answer = self.answer }) }
+    {
+        before.append(self.events)?;
+        Ok(Told {
+            events: before,
+            answer: self.answer,
+        })
     }
 
     /// The same, where a vBucket refused the id 0 as one that was used.

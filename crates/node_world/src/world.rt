@@ -42,7 +42,7 @@ impl Model for World {
 }
 
 /// What a line asks for that dials: its own number, the link's, the nodes of both ends, the vBucket
-/// that is fed, and the size of the producer's window.
+/// that is fed, the size of the producer's window, and whether the vBucket is to be taken over.
 #[derive(Clone, Copy)]
 pub(crate) struct LinkAsk {
     line: u64,
@@ -51,6 +51,7 @@ pub(crate) struct LinkAsk {
     node: u8,
     vb: u16,
     buffer: u32,
+    takeover: bool,
 }
 
 /// Whether a line's answer says that a rollback could not be written down.
@@ -184,7 +185,7 @@ impl World {
 
     /// What is told of a call of a node, once what became of durable writes with it is told to who
     /// awaits it there.
-    fn tell_out(&mut self, n: u8, out: NodeOut) -> Alloc<Told>
+    pub(crate) fn tell_out(&mut self, n: u8, out: NodeOut) -> Alloc<Told>
         ensures { IfOk result (λ told. (w : PlainWorld) → WorldStands self.old w →
             WorldStands self.new (posted_in n out.resolved (w, out_told out)).0
             × (told ≡ (posted_in n out.resolved (w, out_told out)).1)) }
@@ -250,8 +251,8 @@ impl World {
     /// Dials a node for a vBucket of another one.
     fn dial(&mut self, asked: LinkAsk) -> Alloc<Told>
         ensures { IfOk result (λ told. (w : PlainWorld) → WorldStands self.old w →
-            WorldStands self.new (link_step w asked.line asked.link asked.producer asked.node asked.vb asked.buffer).0
-            × (told ≡ (link_step w asked.line asked.link asked.producer asked.node asked.vb asked.buffer).1)) }
+            WorldStands self.new (link_step w asked.line asked.link asked.producer asked.node asked.vb asked.buffer asked.takeover).0
+            × (told ≡ (link_step w asked.line asked.link asked.producer asked.node asked.vb asked.buffer asked.takeover).1)) }
     {
         let Some(serving) = node_place(&self.nodes, asked.producer) else {
             return Ok(Told::refusal(self.alloc, Cause::UnknownNode));
@@ -268,7 +269,7 @@ impl World {
             return Ok(Told::refusal(self.alloc, Cause::NodeDown));
         }
         let is_free = link_place(&self.links, asked.link).is_none();
-        let out = self.nodes[at].dial(asked.vb, asked.link, asked.buffer, is_free)?;
+        let out = self.nodes[at].dial(asked.vb, asked.link, asked.buffer, asked.takeover, is_free)?;
         let Answer::Ok = out.answer else {
             return Ok(Told::of(out));
         };
@@ -416,7 +417,7 @@ impl World {
         match what {
             LinkVerb::Up { bytes } => self.on_link(l, LinkVerb::Up { bytes }),
             LinkVerb::Down { bytes } => self.down(l, bytes),
-            LinkVerb::Pump { frames } => self.on_link(l, LinkVerb::Pump { frames }),
+            LinkVerb::Pump { frames } => self.pump(l, frames),
             LinkVerb::Cut => self.on_link(l, LinkVerb::Cut),
         }
     }
@@ -435,6 +436,7 @@ impl World {
                 to,
                 vb,
                 buffer,
+                takeover,
             } => self.dial(LinkAsk {
                 line,
                 link: id,
@@ -442,6 +444,7 @@ impl World {
                 node: to,
                 vb,
                 buffer,
+                takeover,
             }),
             Verb::AtNode { node, what } => self.tell_node(*node, what),
             Verb::AtVb { node, vb, what } => self.tell_vb(*node, *vb, what),

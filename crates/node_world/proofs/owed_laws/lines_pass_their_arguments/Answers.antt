@@ -1,4 +1,4 @@
-use Rattle.node_world.proofs.Arguments.{arms, clients, dials, frames, vbs}
+use Rattle.node_world.proofs.Arguments.{arms, clients, dials, vbs}
 use Rattle.node_world.proofs.owed_laws.lines_pass_their_arguments.Goals as goal
 
 pub returns-clause-clients : goal.returns-clause-clients
@@ -12,6 +12,3 @@ returns-clause-vbs c = λ w n node there up. vbs w n node there up
 
 pub returns-clause-dials : goal.returns-clause-dials
 returns-clause-dials c = λ w n v node vb there here. dials w n v node vb there here
-
-pub returns-clause-frames : goal.returns-clause-frames
-returns-clause-frames c = λ w l link producer add_link from. frames w l link producer add_link from

@@ -15,4 +15,4 @@ pub returns-clause-opened : goal.returns-clause-opened
 returns-clause-opened c = opens
 
 pub returns-clause-links : goal.returns-clause-links
-returns-clause-links c = λ line l m n v buffer ask. record { number = refl; base = refl; streams = (refl, refl); first = refl; opaque = first_opaque buffer; later = later_opaque buffer }
+returns-clause-links c = λ line l m n v buffer takeover ask. record { number = refl; base = refl; streams = (refl, refl); first = refl; opaque = first_opaque buffer; later = later_opaque buffer }
