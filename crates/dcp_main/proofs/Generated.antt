@@ -6,7 +6,7 @@ use Rattle.std.proofs.Math.Seq.{drop-append_seam}
 use Rattle.node_world.proofs.WorldRests.{empty_rests, world_rests}
 use Rattle.node_world.specs.Nodes.{PlainNode, bytes_at, client_at, done, empty_node, first_cause, flush_line, if_up, refusal, save_line}
 use Rattle.node_world.specs.Rests.{Rests}
-use Rattle.node_world.specs.Links.{producer_node, pump_at, up_at}
+use Rattle.node_world.specs.Links.{producer_node, up_at}
 use Rattle.node_world.specs.Turns.{admin_line, call_told}
 use Rattle.node_world.specs.World.{ask_in, base_of, empty_world, group_with, groups, groups_from, link_causes, verb_step, with_dialed, world_step}
 use Rattle.node_world.specs.Worlds.{PlainWorld, node_outcome, on_node, vb_in, with_links}
@@ -31,7 +31,7 @@ use Rattle.dcp_main.proofs.Newlines.{decimal_plain, newlines_both}
 use Rattle.dcp_main.proofs.Showing.{shown_one}
 use Rattle.script_text.specs.Transcript.{print_of}
 use Rattle.dcp_main.proofs.TellLines.{event_line}
-use Rattle.transcript_law.proofs.invariant.Staying.{Here, RunsIf, admin_stays, armed_here, bytes_stay, client_stays, down_here, due_here, flush_stays, link_here, node_here, nodes_here, pump_stays, save_stays, unless_here, up_stays}
+use Rattle.transcript_law.proofs.invariant.Staying.{Here, RunsIf, admin_stays, armed_here, bytes_stay, client_stays, down_here, due_here, flush_stays, link_here, node_here, nodes_here, pump_here, save_stays, unless_here, up_stays}
 
 -- ---- the lines behind the first four
 
@@ -39,7 +39,7 @@ use Rattle.transcript_law.proofs.invariant.Staying.{Here, RunsIf, admin_stays, a
 abbrev IsQuiet : Verb → Type 0
 IsQuiet (verb.AtClient n c client_verb.Open) = Unit {0}
 IsQuiet (verb.AtClient n c (client_verb.Bytes bytes)) = Unit {0}
-IsQuiet (verb.Link l m n v buffer) = Unit {0}
+IsQuiet (verb.Link l m n v buffer takeover) = Unit {0}
 IsQuiet (verb.AtLink l (link_verb.Up wanted)) = Unit {0}
 IsQuiet (verb.AtLink l (link_verb.Down wanted)) = Unit {0}
 IsQuiet (verb.AtLink l (link_verb.Pump frames)) = Unit {0}
@@ -73,12 +73,12 @@ module _ (n v : ℕ) where
   verb_here : (w : PlainWorld) (line : ℕ) (said : Verb) → IsQuiet said → Here n v w → Here n v (verb_step w line said).0
   verb_here w line (verb.AtClient m c client_verb.Open) quiet here = node_here n v w m (client_at m (base_of line) c) here (client_stays m (base_of line) c)
   verb_here w line (verb.AtClient m c (client_verb.Bytes bytes)) quiet here = node_here n v w m (bytes_at c bytes) here (bytes_stay c bytes)
-  verb_here w line (verb.Link l m k u buffer) quiet here =
-      let now : PlainWorld = with_links w (with_dialed line l m k u buffer w.links (ask_in w k u)) in
+  verb_here w line (verb.Link l m k u buffer takeover) quiet here =
+      let now : PlainWorld = with_links w (with_dialed line l m k u buffer takeover w.links (ask_in w k u)) in
       unless_here n v (first_cause (link_causes w l m k u)) w (now, done []) here (nodes_here n v w now refl here)
   verb_here w line (verb.AtLink l (link_verb.Up wanted)) quiet here = link_here n v w l producer_node (up_at wanted) here (up_stays wanted)
   verb_here w line (verb.AtLink l (link_verb.Down wanted)) quiet here = down_here n v w l wanted here
-  verb_here w line (verb.AtLink l (link_verb.Pump frames)) quiet here = link_here n v w l producer_node (pump_at frames) here (pump_stays frames)
+  verb_here w line (verb.AtLink l (link_verb.Pump frames)) quiet here = pump_here n v w l frames here
   verb_here w line (verb.AtVb m u vb_verb.Take) quiet here = node_here n v w m (flush_line m u part.Take) here (flush_stays m u part.Take)
   verb_here w line (verb.AtVb m u vb_verb.Save) quiet here = armed_here n v w m (on_node w m (save_line m u)) here (node_here n v w m (save_line m u) here (save_stays m u))
   verb_here w line (verb.AtVb m u vb_verb.Done) quiet here = due_here n v m u (on_node w m (flush_line m u part.Done)) (node_here n v w m (flush_line m u part.Done) here (flush_stays m u part.Done))

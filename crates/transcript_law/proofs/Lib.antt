@@ -10,6 +10,7 @@ pub mod links
 pub mod disks
 pub mod verbs
 pub mod lines
+pub mod noted
 pub mod balance
 pub mod awaiting
 pub mod ends

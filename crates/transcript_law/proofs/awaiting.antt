@@ -11,6 +11,8 @@ pub mod Roles
 pub mod Scripts
 pub mod Stays
 pub mod Idles
+pub mod Downs
 pub mod Turns
+pub mod Givings
 pub mod Running
 pub mod Owns

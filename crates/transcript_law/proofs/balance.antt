@@ -9,7 +9,9 @@ pub mod Stepping
 pub mod Upping
 pub mod Pumping
 pub mod Downing
+pub mod Giving
 pub mod Leaving
 pub mod Opening
 pub mod Running
 pub mod Numbers
+pub mod Flows

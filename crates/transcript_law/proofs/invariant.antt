@@ -12,8 +12,10 @@ pub mod ClientsTurned
 pub mod Clientless
 pub mod Agreement
 pub mod AtRest
+pub mod OwnRests
 pub mod CallsKept
 pub mod Carried
+pub mod Standing
 pub mod Forked
 pub mod Carrying
 pub mod Entering
@@ -22,6 +24,7 @@ pub mod Known
 pub mod LinkFeeds
 pub mod LinkRows
 pub mod OneLink
+pub mod SameWorld
 pub mod Clocking
 pub mod Prefixes
 pub mod Ranged
@@ -55,4 +58,5 @@ pub mod ClientNodes
 pub mod ClientStarts
 pub mod ClientWorlds
 pub mod Unpended
+pub mod Noted
 pub mod Writers

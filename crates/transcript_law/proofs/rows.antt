@@ -83,3 +83,4 @@ pub mod ClosingRows
 pub mod WaitRows
 pub mod OwnWaitRows
 pub mod TakeoverWaits
+pub mod TakeoverEnds

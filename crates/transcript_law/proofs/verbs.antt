@@ -6,6 +6,12 @@ pub mod ClientTellings
 pub mod ClientsEnded
 pub mod Crashing
 pub mod Dials
+pub mod DownFrames
+pub mod DownRests
+pub mod DownOwns
+pub mod DownTold
+pub mod DownSays
+pub mod DownEach
 pub mod DownLine
 pub mod DueLines
 pub mod FlushLines
@@ -14,6 +20,13 @@ pub mod Leaving
 pub mod Making
 pub mod LineAnswers
 pub mod NodeLines
+pub mod Giving
+pub mod PumpFirst
+pub mod PumpFrames
+pub mod PumpLines
+pub mod PumpOthers
+pub mod PumpTellings
+pub mod PumpNoted
 pub mod Pumping
 pub mod Requesting
 pub mod Rising
@@ -40,6 +53,9 @@ pub mod Rows
 pub mod VbRows
 pub mod AdminLines
 pub mod Tellings
+pub mod Untaken
+pub mod Moved
+pub mod Moving
 pub mod StopTellings
 pub mod VbTellings
 pub mod NodeTellings
@@ -48,6 +64,7 @@ pub mod Asking
 pub mod AskingStarts
 pub mod AskingLines
 pub mod Undone
-pub mod Unstated
 pub mod StoredLines
+pub mod Unclosed
 pub mod BreakLines
+pub mod EndsKnown

@@ -132,7 +132,7 @@ AskedOfClient client_verb.Hang lines = Unit {0}
 -- a line tells what it was asked for, and of the vBucket and the ids that it names
 abbrev pub TellsAsAsked : Verb → List Event → Answer → Type 0
 TellsAsAsked (verb.Node n) lines said = Unit {0}
-TellsAsAsked (verb.Link l m n v buffer) lines said = Unit {0}
+TellsAsAsked (verb.Link l m n v buffer takeover) lines said = Unit {0}
 TellsAsAsked (verb.AtNode n what) lines said = AskedOfNode what lines
 TellsAsAsked (verb.AtVb n v what) lines said = AskedOfVb n v what lines said
 TellsAsAsked (verb.AtClient n c what) lines said = AskedOfClient what lines

@@ -36,7 +36,7 @@ bound_node down (node_verb.Start uuids) = if down then [] else cause.NodeUp ∷ 
 -- the causes for one of which a line is bound to be refused, by what it names, and none where it may be carried out: a node that is down carries out no line for its vBuckets or its clients; and over a link that is not dialed, or over, nothing goes
 abbrev pub bound_by : Chronicle → Verb → List Cause
 bound_by chronicle (verb.Node n) = if is_told_down chronicle n then cause.NodeExists ∷ [] else []
-bound_by chronicle (verb.Link l m n v buffer) = if is_told_down chronicle m || is_told_down chronicle n then cause.NodeDown ∷ cause.UnknownNode ∷ [] else []
+bound_by chronicle (verb.Link l m n v buffer takeover) = if is_told_down chronicle m || is_told_down chronicle n then cause.NodeDown ∷ cause.UnknownNode ∷ [] else []
 bound_by chronicle (verb.AtNode n what) = bound_node (is_told_down chronicle n) what
 bound_by chronicle (verb.AtVb n v what) = if_down (is_told_down chronicle n)
 bound_by chronicle (verb.AtClient n c what) = if_down (is_told_down chronicle n)

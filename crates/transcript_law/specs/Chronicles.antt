@@ -324,7 +324,7 @@ ahead chronicle other said = chronicle
 abbrev pub after_verb : Chronicle → Chronicle → Verb → List Event → Answer → Chronicle
 after_verb before chronicle (verb.AtVb n v (vb_verb.MakeActive uuid)) lines said = after_made chronicle n v role.Active said
 after_verb before chronicle (verb.AtVb n v vb_verb.MakeReplica) lines said = after_made chronicle n v role.Replica said
-after_verb before chronicle (verb.Link l m n v buffer) lines said = after_dial chronicle l m n v said
+after_verb before chronicle (verb.Link l m n v buffer takeover) lines said = after_dial chronicle l m n v said
 after_verb before chronicle (verb.AtLink l (link_verb.Down wanted)) lines said = after_moved chronicle (heir_in lines) (rollback_of before (before.dial_of l) (before.point_of l)) lines said
 after_verb before chronicle (verb.AtVb n v (vb_verb.Promote uuid)) lines said = after_noted chronicle n v role.Active said
 after_verb before chronicle (verb.AtVb n v vb_verb.Follow) lines said = after_noted chronicle n v role.Replica said

@@ -1,5 +1,5 @@
 -- links that end, and of which that is not told, and lines over links that go on, to be judged by hand
-use Rattle.std.specs.Prelude.{ℕ, List, [], ◌∷◌, None}
+use Rattle.std.specs.Prelude.{ℕ, false, List, [], ◌∷◌, None}
 use Rattle.script_text.specs.declared.verb.LinkVerb.{LinkVerb}
 use Rattle.script_text.specs.declared.verb.Verb.{Verb}
 use Rattle.script_text.specs.declared.verb.Verb.TheVariants as verb
@@ -35,7 +35,7 @@ IsCarried what = (why : Cause) → LawfulHere one_dialed (over_one what) ([], an
 
 -- the link l is dialed, from the node 0 to the vBucket v of the node 1
 abbrev pub dials : ℕ → ℕ → Verb
-dials l v = verb.Link l 0 1 v 0
+dials l v = verb.Link l 0 1 v 0 false
 
 -- another vBucket of its node is dead, and the append of that stops the node
 abbrev pub turns_and_stops : List Event
@@ -43,7 +43,7 @@ turns_and_stops = event.Role 1 1 role.Dead ∷ event.NodeStopped 1 ∷ []
 
 -- the link l is dialed for the vBucket 0 of another node
 abbrev pub dials_elsewhere : ℕ → Verb
-dials_elsewhere l = verb.Link l 0 2 0 0
+dials_elsewhere l = verb.Link l 0 2 0 0 false
 
 -- a cause of which no disk knows
 abbrev pub IsNoDisk : Cause → Type 0

@@ -8,6 +8,8 @@ use Rattle.node_world.specs.World.{PlainWorld, vb_in}
 use Rattle.node_world.specs.Worlds.{is_up}
 use Rattle.vb_events.specs.declared.event.StreamName.{StreamName}
 use Rattle.vb_events.specs.declared.event.StreamName.TheVariants as name
+use Rattle.takeover.specs.declared.take_over.TakeStep.TheVariants.{Own}
+use Rattle.vb_types.specs.declared.role.Role.{Role}
 use Rattle.vb_calls.specs.Following.{is_follower}
 use Rattle.vb_calls.specs.Plain.{Plain}
 use Rattle.vb_calls.specs.declared.stream.Stream.{Stream}
@@ -66,9 +68,17 @@ pub record StreamsAreFed (w : PlainWorld) : Type 0 where
   pub dialed : (l n v id : ℕ) (link : PlainLink) → IsLinked w l link → IsOf n v id link → link.consumer.dialed.vb ≡ v
   pub apart : (who other : StreamName) (n v id : ℕ) → HasFed w who n v id → HasFed w other n v id → who ≡ other
 
--- each open link has its number, and feeds a vBucket that is there and follows; the nodes at both its ends are made, and run; and no two links feed one vBucket
+-- the vBucket that a link feeds took its branch over by this link, whose end alone is to come
+abbrev pub IsOwner : PlainLink → Type 0
+IsOwner link = link.consumer.taking.last ≡ Some Own
+
+-- a vBucket follows, and did not take its branch over by this link; or it did, and follows nobody
+abbrev pub FollowsOrOwns : Role → PlainLink → Type 0
+FollowsOrOwns role link = ((is_follower role ≡ true) × (IsOwner link → ⊥)) ⊎ ((is_follower role ≡ false) × IsOwner link)
+
+-- each open link has its number, and feeds a vBucket that is there and follows, unless it took its branch over by this link; the nodes at both its ends are made, and run; and no two links feed one vBucket
 pub record LinksAreFed (w : PlainWorld) : Type 0 where
   pub number : (l : ℕ) (link : PlainLink) → IsLinked w l link → link_number link ≡ l
-  pub follows : (l : ℕ) (link : PlainLink) → IsLinked w l link → (vb : Plain) × (vb_in (w.nodes (consumer_node link)) link.consumer.dialed.vb ≡ Some vb) × (is_follower vb.role ≡ true)
+  pub follows : (l : ℕ) (link : PlainLink) → IsLinked w l link → (vb : Plain) × (vb_in (w.nodes (consumer_node link)) link.consumer.dialed.vb ≡ Some vb) × FollowsOrOwns vb.role link
   pub runs : (l : ℕ) (link : PlainLink) → IsLinked w l link → (is_up (w.nodes (consumer_node link)) ≡ true) × (is_up (w.nodes (producer_node link)) ≡ true)
   pub apart : (l k : ℕ) (link other : PlainLink) → IsLinked w l link → IsLinked w k other → consumer_node link ≡ consumer_node other → link.consumer.dialed.vb ≡ other.consumer.dialed.vb → l ≡ k

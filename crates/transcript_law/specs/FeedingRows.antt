@@ -1,6 +1,7 @@
 -- worlds of two nodes with a link between them, to be judged by hand
 use Rattle.std.specs.Prelude.{◌≡◌, ℕ, false, ◌==◌, if◌then◌else◌, List, [], ◌∷◌, Some, None}
 use Rattle.dcp_producer.specs.Producers.{PlainStream}
+use Rattle.takeover.specs.declared.take_over.TakeStep.TheVariants.{Own}
 use Rattle.vb_calls.specs.declared.stream.Stream.{Stream}
 use Rattle.vb_types.specs.declared.role.Role.{Role}
 use Rattle.vb_types.specs.declared.role.Role.TheVariants as role
@@ -37,7 +38,11 @@ has_one said = record empty_node { vbs = one_in said }
 
 -- the link l feeds the vBucket 0 of the node 1 from the node 0, and asks for this
 abbrev pub feeding : ℕ → StreamAsk → PlainLink
-feeding l ask = new_link 9 l 0 1 0 0 ask
+feeding l ask = new_link 9 l 0 1 0 0 false ask
+
+-- the same link, by which the vBucket took its branch over
+abbrev pub owning : ℕ → StreamAsk → PlainLink
+owning l ask = record (feeding l ask) { consumer = record (feeding l ask).consumer { taking = record { last = Some Own } } }
 
 -- a node that runs, whose vBucket 0 is active and has these streams
 abbrev pub has_streams : List Stream → PlainNode

@@ -38,7 +38,7 @@ may_write kind.Counts = false
 -- the node at which a line of a script may call a disk, if it does: where a link's bytes are taken, that of the vBucket that dialed it. Each verb has a row of its own, here or in its kind
 abbrev pub writes_at : Chronicle → Verb → Option ℕ
 writes_at chronicle (verb.Node n) = None
-writes_at chronicle (verb.Link l m n v buffer) = None
+writes_at chronicle (verb.Link l m n v buffer takeover) = None
 writes_at chronicle (verb.AtNode n (node_verb.Clock nanos)) = None
 writes_at chronicle (verb.AtNode n (node_verb.Stop call out)) = None
 writes_at chronicle (verb.AtNode n (node_verb.Fail call)) = None

@@ -1,5 +1,5 @@
 -- a script of a replica that follows, and transcripts of it to be judged by hand
-use Rattle.std.specs.Prelude.{ℕ, ◌^◌, ◌-◌, ◌==◌, if◌then◌else◌, List, [], ◌∷◌, ◌++◌, take, drop, Some, None}
+use Rattle.std.specs.Prelude.{false, ℕ, ◌^◌, ◌-◌, ◌==◌, if◌then◌else◌, List, [], ◌∷◌, ◌++◌, take, drop, Some, None}
 use Rattle.node_core.specs.Clients.{new_client}
 use Rattle.durability.specs.Chains.{Members}
 use Rattle.script_text.specs.declared.verb.ScriptLine.{ScriptLine}
@@ -39,7 +39,7 @@ two_followed =
     script_line 1 (verb.Node 0) ∷ script_line 2 (verb.Node 1) ∷ script_line 3 (verb.AtClient 0 1 client_verb.Open)
     ∷ script_line 4 (verb.AtVb 0 0 (vb_verb.MakeActive 5)) ∷ script_line 5 (verb.AtVb 1 0 vb_verb.MakeReplica)
     ∷ set_line 6 (7 ∷ []) (8 ∷ []) ∷ set_line 7 (9 ∷ []) (6 ∷ [])
-    ∷ script_line 8 (verb.Link 1 0 1 0 1) ∷ script_line 9 (verb.AtLink 1 (link_verb.Up 1000)) ∷ script_line 10 (verb.AtLink 1 (link_verb.Down 1000))
+    ∷ script_line 8 (verb.Link 1 0 1 0 1 false) ∷ script_line 9 (verb.AtLink 1 (link_verb.Up 1000)) ∷ script_line 10 (verb.AtLink 1 (link_verb.Down 1000))
     ∷ script_line 11 (verb.AtLink 1 (link_verb.Pump 9)) ∷ script_line 12 (verb.AtLink 1 (link_verb.Down 1000)) ∷ script_line 13 (verb.AtVb 1 0 vb_verb.Show) ∷ []
 
 -- the key 9 is set to 6 by the second change

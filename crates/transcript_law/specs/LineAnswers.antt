@@ -295,7 +295,7 @@ KindAnswer chronicle n v Counts lines said = IsSaved (chronicle.disk_at n v) sai
 -- a line of a script, after what was read, by the lines that its group has and by its answer. Each verb has a row of its own, here or in its kind
 abbrev pub LawfulAnswer : Chronicle → Verb → List Event → Answer → Type 0
 LawfulAnswer chronicle (verb.Node n) lines said = IsCarriedOut said
-LawfulAnswer chronicle (verb.Link l m n v buffer) lines said = IsLinked chronicle.dial_of l n v said
+LawfulAnswer chronicle (verb.Link l m n v buffer takeover) lines said = IsLinked chronicle.dial_of l n v said
 LawfulAnswer chronicle (verb.AtNode n (node_verb.Clock nanos)) lines said = IsCarriedOut said
 LawfulAnswer chronicle (verb.AtNode n (node_verb.Stop call out)) lines said = IsCarriedOut said
 LawfulAnswer chronicle (verb.AtNode n (node_verb.Fail call)) lines said = IsCarriedOut said

@@ -1,13 +1,14 @@
 -- lines of a stream that takes a vBucket over, and of its link, one after another
-use Rattle.std.specs.Prelude.{◌≡◌, ◌⊎◌, ℕ, ◌^◌, ◌-◌, true, List, [], ◌∷◌, Some, None}
+use Rattle.std.specs.Prelude.{◌≡◌, ◌≢◌, ◌⊎◌, ◌≤◌, ℕ, ◌^◌, ◌-◌, true, List, [], ◌∷◌, Some}
 use Rattle.vb_events.specs.declared.event.EndReason.{EndReason}
 use Rattle.vb_events.specs.declared.event.EndReason.TheVariants as reason
 use Rattle.vb_events.specs.declared.event.Event.{Event}
 use Rattle.vb_events.specs.declared.event.Event.TheVariants as event
 use Rattle.vb_events.specs.declared.event.StreamName.TheVariants as name
-use Rattle.vb_types.specs.declared.role.Role.TheVariants.{Active}
-use Rattle.transcript_law.specs.Heirs.{IsHanded, IsKept, IsSteady, IsYielded, MayBeAnswered}
-use Rattle.transcript_law.specs.LinesTold.{Chronicle, Dial, Granted, after_line}
+use Rattle.vb_types.specs.declared.role.Role.TheVariants.{Active, Dead}
+use Rattle.mcbp_frame.specs.declared.frame.TheConstants.{HEADER_LEN}
+use Rattle.transcript_law.specs.Heirs.{IsHanded, IsKept, IsSteady, IsYielded}
+use Rattle.transcript_law.specs.LinesTold.{Chronicle, Dial, Granted, Put, after_line}
 
 -- the reasons of a stream's end: all was sent, which is that its vBucket was handed over; and the vBucket got another role
 abbrev pub HANDED_OVER : ℕ
@@ -20,10 +21,18 @@ ROLE_CHANGED = 2
 abbrev pub IsTakeover : Chronicle → ℕ → Dial → Type 0
 IsTakeover chronicle l dial = (chronicle.dial_of l ≡ Some dial) × ((chronicle.takeover_of l).dialed ≡ true)
 
+-- the answer to the state active can have come, which was put last: the consumer told since that its vBucket took over, which is active, or was given up again by now, and took all that was put, and bytes enough for an answer were moved up since
+pub record MayBeOwned (chronicle : Chronicle) (l : ℕ) (dial : Dial) (g : Granted) : Type 0 where
+  pub has : (chronicle.role_at dial.node dial.vb ≡ Some (Some Active)) ⊎ (chronicle.role_at dial.node dial.vb ≡ Some (Some Dead))
+  pub told : (chronicle.takeover_of l).obeyed ≢ Put
+  pub marks : g.marks ≡ []
+  pub items : g.coming ≡ []
+  pub moved : HEADER_LEN ≤ (chronicle.takeover_of l).moved
+
 -- the vBucket of the link was handed over: it was given up, its consumer's took over, and that was answered
 pub record IsTakenOver (chronicle : Chronicle) (l : ℕ) (dial : Dial) (g : Granted) : Type 0 where
   pub handed : IsHanded chronicle l dial
-  pub answered : MayBeAnswered chronicle l dial g Active
+  pub answered : MayBeOwned chronicle l dial g
 
 -- a marker stands before pending is stated, or behind that once the vBucket was given up
 abbrev pub IsMarkedIn : Chronicle → ℕ → Dial → Type 0

@@ -1,5 +1,5 @@
 -- what a whole group tells of links that may take a vBucket over
-use Rattle.std.specs.Prelude.{ℕ, ◌==◌, ◌&&◌, ◌||◌, not, if◌then◌else◌, Bool, true, false, List, Option, Some, None}
+use Rattle.std.specs.Prelude.{ℕ, ◌==◌, ◌&&◌, ◌||◌, not, if◌then◌else◌, Bool, false, List, Option, Some, None}
 use Rattle.std.specs.List.{list_any}
 use Rattle.script_text.specs.declared.verb.LinkVerb.TheVariants as link_verb
 use Rattle.script_text.specs.declared.verb.Verb.{Verb}
@@ -69,7 +69,7 @@ abbrev pub obeyed_after : Option Dial → Verb → List Event → Answer → ℕ
 obeyed_after dial (verb.AtLink k (link_verb.Pump wanted)) lines said l t = if k == l && list_any (is_state_of l) lines then with_state t else t
 obeyed_after dial (verb.AtLink k (link_verb.Down wanted)) lines said l t = if k == l && turns_consumer dial lines then with_role t else t
 obeyed_after dial (verb.AtLink k (link_verb.Up wanted)) lines (answer.Number n) l t = if k == l then with_moved wanted n t else t
-obeyed_after dial (verb.Link k m n v buffer) lines answer.Ok l t = if k == l then dialed_for false else t
+obeyed_after dial (verb.Link k m n v buffer takeover) lines answer.Ok l t = if k == l then dialed_for takeover else t
 obeyed_after dial other lines said l t = t
 
 -- both, by what is read with the group

@@ -126,6 +126,14 @@ moved_heard = after_group moved (takes_up 99) [] (answer.Number 24)
 abbrev pub finishes : ℕ → Event
 finishes reason = event.Finished (name.Link 1) reason
 
+-- the heir's vBucket is given up in turn, over another link
+abbrev pub given_on : Chronicle → Chronicle
+given_on chronicle = after_group chronicle (verb.AtLink 2 (link_verb.Pump 9)) (gets 1 0 role.Dead ∷ []) (answer.Pulled 1 why.WaitState)
+
+-- the state active was put just now, by lines of a group that is not over
+abbrev pub put_active_now : Chronicle
+put_active_now = after_lines heard (gets 0 0 role.Dead ∷ states role.Active ∷ [])
+
 abbrev pub ended_with : ℕ → Chronicle → Chronicle
 ended_with reason chronicle = after_group chronicle puts (finishes reason ∷ []) (answer.Pulled 1 why.Idle)
 

@@ -2,6 +2,7 @@
 use Rattle.std.specs.Prelude.{◌≡◌, ◌⊎◌, ℕ, ◌==◌, ◌&&◌, ◌||◌, Bool, true, false, List, [], ◌∷◌, ◌++◌, Option, Some, None}
 use Rattle.script_text.specs.declared.verb.LinkVerb.{LinkVerb}
 use Rattle.script_text.specs.declared.verb.LinkVerb.TheVariants as link_verb
+use Rattle.script_text.specs.declared.verb.ScriptLine.{ScriptLine}
 use Rattle.script_text.specs.declared.verb.Verb.{Verb}
 use Rattle.script_text.specs.declared.verb.Verb.TheVariants as verb
 use Rattle.vb_events.specs.declared.event.EndReason.TheVariants as reason
@@ -93,6 +94,15 @@ TellsOnly chronicle asked lines = TellsOf chronicle asked lines ⊎ TellsMove ch
 -- no link is dialed for a takeover
 abbrev pub NoneDialed : Chronicle → Type 0
 NoneDialed chronicle = (l : ℕ) → (chronicle.takeover_of l).dialed ≡ false
+
+-- a line of a script dials none for one, and no line of a script does
+abbrev pub FollowsAlone : Verb → Type 0
+FollowsAlone (verb.Link l m n v buffer takeover) = takeover ≡ false
+FollowsAlone other = Unit {0}
+
+abbrev pub AllFollow : List ScriptLine → Type 0
+AllFollow [] = Unit {0}
+AllFollow (line ∷ lines) = FollowsAlone line.verb × AllFollow lines
 
 -- nor is the one that the line of the script names, where it names one
 abbrev pub IsPlainFor : Chronicle → Verb → Type 0

@@ -1,5 +1,5 @@
 -- what the lines tell of a link that may take a vBucket over, beside what they tell of each link
-use Rattle.std.specs.Prelude.{ℕ, ◌+◌, ◌==◌, ◌&&◌, ◌||◌, nat_lt, if◌then◌else◌, Bool, true, false}
+use Rattle.std.specs.Prelude.{ℕ, ◌+◌, nat_lt, if◌then◌else◌, Bool, false}
 
 -- what is known of the state that was put last on a link: nothing more; that its consumer obeyed it, as it told of its vBucket's role; and that all was moved up the link since, so that its answer came
 pub data Obeyed : Type 0 where

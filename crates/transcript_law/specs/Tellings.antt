@@ -179,7 +179,7 @@ at_link (Some dial) l link_verb.Cut line = is_of_cut l line
 -- what a line may tell, up to where a node stops
 abbrev pub may_tell : Chronicle → Verb → Event → Bool
 may_tell chronicle (verb.Node n) line = is_none line
-may_tell chronicle (verb.Link l m n v buffer) line = is_none line
+may_tell chronicle (verb.Link l m n v buffer takeover) line = is_none line
 may_tell chronicle (verb.AtNode n what) line = at_node chronicle n what line
 may_tell chronicle (verb.AtVb n v what) line = at_vb chronicle n v what line
 may_tell chronicle (verb.AtClient n c what) line = at_client n c what line

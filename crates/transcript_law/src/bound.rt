@@ -1,6 +1,6 @@
 //! Each line that a node or a link is bound to refuse, by itself.
 
-ghost use Rattle.std.specs.Prelude.{ℕ, List, [], ◌∷◌, Option};
+ghost use Rattle.std.specs.Prelude.{ℕ, Bool, false, List, [], ◌∷◌, Option};
 ghost use Rattle.script_text.specs.declared.verb.Verb.TheVariants as verb;
 ghost use Rattle.script_text.specs.declared.verb.VbVerb.TheVariants as vb_verb;
 ghost use Rattle.script_text.specs.declared.verb.NodeVerb.TheVariants as node_verb;
@@ -39,13 +39,13 @@ pub fn judged_down_lines()
     ensures log { (v : ℕ) → IsRefusedFor zero_down cause.NodeDown (verb.AtVb 0 v vb_verb.Log) }
     ensures show { (v : ℕ) → IsRefusedFor zero_down cause.NodeDown (verb.AtVb 0 v vb_verb.Show) }
     ensures crash { (out : OutcomeData) → IsRefusedFor zero_down cause.NodeDown (verb.AtNode 0 (node_verb.Crash out)) }
-    ensures producer { (l v buffer : ℕ) → IsRefusedForOne zero_down cause.NodeDown cause.UnknownNode (verb.Link l 0 1 v buffer) }
-    ensures consumer { (l v buffer : ℕ) → IsRefusedForOne zero_down cause.NodeDown cause.UnknownNode (verb.Link l 1 0 v buffer) }
+    ensures producer { (l v buffer : ℕ) (takeover : Bool) → IsRefusedForOne zero_down cause.NodeDown cause.UnknownNode (verb.Link l 0 1 v buffer takeover) }
+    ensures consumer { (l v buffer : ℕ) (takeover : Bool) → IsRefusedForOne zero_down cause.NodeDown cause.UnknownNode (verb.Link l 1 0 v buffer takeover) }
     ensures start { (uuids : List ℕ) → IsRefusedForOne zero_down cause.NodeUp cause.UnknownNode (verb.AtNode 1 (node_verb.Start uuids)) }
     ensures stops { (call : ℕ) (out : OutcomeData) → LawfulHere zero_down (verb.AtNode 0 (node_verb.Stop call out)) (ok []) }
     ensures fails { (call : ℕ) → LawfulHere zero_down (verb.AtNode 0 (node_verb.Fail call)) (ok []) }
     ensures other { LawfulHere zero_down (verb.AtNode 1 (node_verb.Clock 5)) (ok []) }
-    ensures other_link { LawfulHere zero_down (verb.Link 1 2 1 0 0) (ok []) }
+    ensures other_link { LawfulHere zero_down (verb.Link 1 2 1 0 0 false) (ok []) }
     ensures other_crash { (out : OutcomeData) → LawfulHere zero_down (verb.AtNode 1 (node_verb.Crash out)) (ok []) }
 {}
 

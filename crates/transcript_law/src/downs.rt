@@ -1,6 +1,6 @@
 //! What makes a transcript lawful or not by whether nodes are down, and links over.
 
-ghost use Rattle.std.specs.Prelude.{◌≡◌, ℕ, List, [], ◌∷◌, ◌++◌};
+ghost use Rattle.std.specs.Prelude.{◌≡◌, ℕ, Bool, List, [], ◌∷◌, ◌++◌};
 ghost use Rattle.script_text.specs.declared.verb.Verb.TheVariants as verb;
 ghost use Rattle.script_text.specs.declared.verb.VbVerb.TheVariants as vb_verb;
 ghost use Rattle.script_text.specs.declared.verb.NodeVerb.TheVariants as node_verb;
@@ -30,7 +30,7 @@ pub fn judged_downs()
     ensures promotes { (lines : List Event) → LawfulAfter (crash_and (verb.AtVb 0 0 (vb_verb.Promote 7))) (crash_and_groups (ok lines)) → ⊥ }
     ensures makes { (lines : List Event) → LawfulAfter (crash_and (verb.AtVb 0 1 vb_verb.MakeReplica)) (crash_and_groups (ok lines)) → ⊥ }
     ensures opens { (lines : List Event) → LawfulAfter (crash_and (verb.AtClient 0 1 client_verb.Open)) (crash_and_groups (ok lines)) → ⊥ }
-    ensures dials { (buffer : ℕ) (lines : List Event) → LawfulAfter (crash_and (verb.Link 1 0 0 0 buffer)) (crash_and_groups (ok lines)) → ⊥ }
+    ensures dials { (buffer : ℕ) (takeover : Bool) (lines : List Event) → LawfulAfter (crash_and (verb.Link 1 0 0 0 buffer takeover)) (crash_and_groups (ok lines)) → ⊥ }
     ensures crashes_twice { (lines : List Event) → LawfulAfter (crash_and (verb.AtNode 0 (node_verb.Crash Old))) (crash_and_groups (ok lines)) → ⊥ }
     ensures made_twice { (lines : List Event) → LawfulAfter (crash_and (verb.Node 0)) (crash_and_groups (ok lines)) → ⊥ }
     ensures started_up { LawfulAfter (verb.AtNode 0 (node_verb.Start (7 ∷ [])) ∷ []) (refused cause.NodeUp ∷ []) }

@@ -1,6 +1,6 @@
 //! What each verb may be answered, and may tell of arms, verb by verb.
 
-ghost use Rattle.std.specs.Prelude.{ℕ, List, Option};
+ghost use Rattle.std.specs.Prelude.{ℕ, Bool, List, Option};
 ghost use Rattle.script_text.specs.declared.verb.Verb.TheVariants as verb;
 ghost use Rattle.script_text.specs.declared.verb.VbVerb.TheVariants as vb_verb;
 ghost use Rattle.script_text.specs.declared.verb.NodeVerb.TheVariants as node_verb;
@@ -22,7 +22,7 @@ pub fn judged_kinds()
     ensures bytes { (k : ℕ) (sent : List ℕ) → CountsNothing empty_chronicle (verb.AtClient 0 k (client_verb.Bytes sent)) }
     ensures hang { (k : ℕ) → CountsNothing empty_chronicle (verb.AtClient 0 k client_verb.Hang) }
     ensures clock { (nanos : ℕ) → CountsNothing empty_chronicle (verb.AtNode 0 (node_verb.Clock nanos)) }
-    ensures link { (l : ℕ) (v : ℕ) (buffer : ℕ) → CountsNothing empty_chronicle (verb.Link l 0 1 v buffer) }
+    ensures link { (l : ℕ) (v : ℕ) (buffer : ℕ) (takeover : Bool) → CountsNothing empty_chronicle (verb.Link l 0 1 v buffer takeover) }
     ensures cut { CountsNothing one_dialed (verb.AtLink 1 link_verb.Cut) }
     ensures promote { (v : ℕ) (uuid : ℕ) → CountsNothing empty_chronicle (verb.AtVb 0 v (vb_verb.Promote uuid)) }
     ensures follow { (v : ℕ) → CountsNothing empty_chronicle (verb.AtVb 0 v vb_verb.Follow) }
@@ -66,7 +66,7 @@ pub fn judged_firing_lines()
     ensures bytes { (k : ℕ) (sent : List ℕ) → FiresNothing (verb.AtClient 0 k (client_verb.Bytes sent)) }
     ensures hang { (k : ℕ) → FiresNothing (verb.AtClient 0 k client_verb.Hang) }
     ensures clock { (nanos : ℕ) → FiresNothing (verb.AtNode 0 (node_verb.Clock nanos)) }
-    ensures link { (l : ℕ) (v : ℕ) (buffer : ℕ) → FiresNothing (verb.Link l 0 1 v buffer) }
+    ensures link { (l : ℕ) (v : ℕ) (buffer : ℕ) (takeover : Bool) → FiresNothing (verb.Link l 0 1 v buffer takeover) }
     ensures up { (wanted : ℕ) → FiresNothing (verb.AtLink 1 (link_verb.Up wanted)) }
     ensures pump { (wanted : ℕ) → FiresNothing (verb.AtLink 1 (link_verb.Pump wanted)) }
     ensures cut { FiresNothing (verb.AtLink 1 link_verb.Cut) }

@@ -1,7 +1,7 @@
 //! What is lawful where a vBucket goes from one node to another, ahead of scripts in which one does.
 
 ghost use Rattle.std.specs.Prelude.{◌≡◌, ◌≤◌, ℕ, true, false, List, [], ◌∷◌, ◌++◌, Option, Some, None};
-ghost use Rattle.transcript_law.specs.Chronicles.{Chronicle, after_branch, after_group, alone, empty_chronicle};
+ghost use Rattle.transcript_law.specs.Chronicles.{Chronicle, after_branch, after_group, alone, crashed_disk, empty_chronicle, resting};
 ghost use Rattle.branch_model.specs.Histories.{last_seq};
 ghost use Rattle.transcript_law.specs.Followers.{both_got, log_of, marker_line};
 ghost use Rattle.transcript_law.specs.Heirs.{IsRisen, IsWriter, LawfulState};
@@ -10,14 +10,15 @@ ghost use Rattle.transcript_law.specs.LineAnswers.{IsSealed};
 ghost use Rattle.transcript_law.specs.LinesTold.{Answered, Obeys, Put};
 ghost use Rattle.transcript_law.specs.Prefixes.{known_after};
 ghost use Rattle.transcript_law.specs.TakeoverAnswers.{HandsOver};
-ghost use Rattle.transcript_law.specs.TakeoverRows.{DownAnswer, DownTells, HasNoted, KnownAs, MayAsk, MayGet, MayHand, MayStand, PumpSays, PumpTells, active_then, answers_at, asked_again, asked_with, commits_at, cut_here, dead_here, ended_with, fallen, finishes, first_got, follows_here, gets, given_elsewhere, given_up, given_up_early, half_heard, half_put, half_taken, heard, heir_commit, heir_change, journals_under, just_heard, links_end, marked_only, marks_beside, moved, moved_beside, moved_heard, offered, pends, put_to, puts, redialed, rises, rises_failing, states, takes_down, takes_up, third_change, told_active, told_active_beside, told_active_early, told_active_in, told_active_short, told_beside, told_pending, untaken, unwritten, with_third, written_by_another};
-ghost use Rattle.transcript_law.specs.Takeovers.{IsPlainFor, NoneDialed, TellsOnly, all_made};
+ghost use Rattle.transcript_law.specs.TakeoverRows.{DownAnswer, DownTells, HasNoted, KnownAs, MayAsk, MayGet, MayHand, MayStand, PumpSays, PumpTells, active_then, answers_at, asked_again, asked_with, commits_at, cut_here, dead_here, ended_with, fallen, finishes, first_got, follows_here, gets, given_elsewhere, given_on, given_up, given_up_early, half_heard, half_put, half_taken, heard, heir_commit, heir_change, journals_under, just_heard, links_end, marked_only, marks_beside, moved, moved_beside, moved_heard, offered, pends, put_active_now, put_to, puts, redialed, rises, rises_failing, states, takes_down, takes_up, third_change, told_active, told_active_beside, told_active_early, told_active_in, told_active_short, told_beside, told_pending, untaken, unwritten, with_third, written_by_another};
+ghost use Rattle.transcript_law.specs.Takeovers.{AllFollow, IsPlainFor, NoneDialed, TellsOnly, all_made};
 ghost use Rattle.transcript_law.specs.Tellings.{TellsOf};
 ghost use Rattle.script_text.specs.declared.verb.ScriptLine.{ScriptLine};
 ghost use Rattle.script_text.specs.declared.verb.Verb.{Verb};
 ghost use Rattle.script_text.specs.declared.verb.Verb.TheVariants as verb;
 ghost use Rattle.script_text.specs.declared.verb.LinkVerb.TheVariants as link_verb;
 ghost use Rattle.vb_disk.specs.declared.fuse.Fuse.TheVariants.{Fail, Off};
+ghost use Rattle.vb_disk.specs.declared.made.Outcome.{Outcome};
 ghost use Rattle.vb_events.specs.declared.event.Answer.{Answer};
 ghost use Rattle.vb_events.specs.declared.event.Answer.TheVariants as answer;
 ghost use Rattle.vb_events.specs.declared.event.Cause.TheVariants as cause;
@@ -33,19 +34,22 @@ ghost use Rattle.vb_types.specs.declared.role.Role.TheVariants as role;
 /// Where no link is dialed for a takeover no vBucket is handed over: whatever was read before, each
 /// vBucket that a lawful group tells is active makes its branch in the line directly in front, where its
 /// node alone is its chain, and nothing was counted yet; a group tells of nothing else than its line may;
-/// and no state is put. So it is of every script and every transcript as yet.
+/// and no state is put. So it is of every transcript of a script whose links all follow.
 pub fn none_is_handed_over()
     ensures made { (chronicle : Chronicle) (line : ScriptLine) (group : Group) → NoneDialed chronicle → LawfulGroup chronicle line group → all_made None group.events ≡ true }
     ensures risen { (chronicle : Chronicle) (n v uuid : ℕ) (parent : Option ℕ) (fork high : ℕ) → IsRisen (after_branch chronicle n v uuid parent fork high) n v }
     ensures tells { (chronicle : Chronicle) (asked : Verb) (lines : List Event) (said : Answer) → IsPlainFor chronicle asked → HandsOver chronicle asked lines said → TellsOf chronicle asked lines }
     ensures stated { (chronicle : Chronicle) (l : ℕ) (role : Role) → NoneDialed chronicle → LawfulState chronicle l role → ⊥ }
-    ensures none { (script : List ScriptLine) (groups : List Group) → NoneDialed (known_after empty_chronicle script groups) }
+    ensures none { (script : List ScriptLine) (groups : List Group) → AllFollow script → NoneDialed (known_after empty_chronicle script groups) }
 {}
 
-/// So far no vBucket of a lawful transcript is pending behind any front of it: so what a seal answers is
-/// judged of each, and a group tells no more, and nothing else, than where there are no takeovers.
+/// Where all links of a script follow, no vBucket of a lawful transcript is pending behind any front of
+/// it: so what a seal answers is judged of each, and a group tells no more, and nothing else, than where
+/// there are no takeovers. And whatever is dialed, no record tells that a vBucket was pending: one that is
+/// started again is active, a replica or dead, whatever its disk finds of what it was to write down.
 pub fn none_is_pending()
-    ensures { (script : List ScriptLine) (groups : List Group) → Lawful script groups → (n v : ℕ) → (known_after empty_chronicle script groups).role_at n v ≡ Some (Some role.Pending) → ⊥ }
+    ensures follows { (script : List ScriptLine) (groups : List Group) → AllFollow script → Lawful script groups → (n v : ℕ) → (known_after empty_chronicle script groups).role_at n v ≡ Some (Some role.Pending) → ⊥ }
+    ensures rests { (script : List ScriptLine) (groups : List Group) (n v : ℕ) (out : Outcome) → resting (crashed_disk out ((known_after empty_chronicle script groups).disk_at n v)).book ≡ Some role.Pending → ⊥ }
 {}
 
 /// A replica is pending where the state pending was put on the takeover's stream that feeds it, and it
@@ -208,9 +212,10 @@ pub fn judged_moves()
 
 /// On a takeover's stream a marker stands before the state pending, and behind the vBucket was given up;
 /// not while that is to be answered, nor behind the state active, nor once it got another role. The
-/// stream ends with 0 once the heir is active and its answer can have come, and not with 2; with 2 once
-/// the vBucket got another role, and not with 0. Its link is done behind the one, and over for a change
-/// of role behind the other, and neither before. Its request has the flag, and no other link's has it.
+/// stream ends with 0 once the heir was active and its answer can have come, also where it was given up in
+/// turn by then; not in the `pump` that puts the state active, and not with 2; with 2 once the vBucket got
+/// another role, and not with 0. Its link is done behind the one, and over for a change of role behind the
+/// other, and neither before. Its request has the flag, and no other link's has it.
 pub fn judged_takeover_lines()
     ensures marked { MayStand (put_to true) (marker_line 2 3) }
     ensures marked_offered { MayStand (offered true) (marker_line 2 3) → ⊥ }
@@ -218,7 +223,9 @@ pub fn judged_takeover_lines()
     ensures marked_late { MayStand told_active (marker_line 2 3) → ⊥ }
     ensures marked_turned { MayStand dead_here (marker_line 2 3) → ⊥ }
     ensures ended { MayStand moved_heard (finishes 0) }
+    ensures ended_given_on { MayStand (given_on moved_heard) (finishes 0) }
     ensures ended_early { MayStand told_active (finishes 0) → ⊥ }
+    ensures ended_at_once { MayStand put_active_now (finishes 0) → ⊥ }
     ensures ended_unheard { MayStand moved (finishes 0) → ⊥ }
     ensures ended_changed { MayStand moved_heard (finishes 2) → ⊥ }
     ensures ended_turned { MayStand (follows_here moved_heard) (finishes 2) }

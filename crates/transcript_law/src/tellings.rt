@@ -1,6 +1,6 @@
 //! Of what a line may not tell, and which worlds are not fed.
 
-ghost use Rattle.std.specs.Prelude.{ℕ, List, [], ◌∷◌};
+ghost use Rattle.std.specs.Prelude.{ℕ, Bool, List, [], ◌∷◌};
 ghost use Rattle.durability.specs.Chains.{Members};
 ghost use Rattle.script_text.specs.declared.verb.Verb.TheVariants as verb;
 ghost use Rattle.script_text.specs.declared.verb.VbVerb.TheVariants as vb_verb;
@@ -14,7 +14,7 @@ ghost use Rattle.transcript_law.specs.BoundRows.{LawfulHere, one_dialed};
 ghost use Rattle.transcript_law.specs.ClientRows.{closes};
 ghost use Rattle.transcript_law.specs.Crashes.{ok};
 ghost use Rattle.transcript_law.specs.Feeding.{LinksAreFed, StreamsAreFed};
-ghost use Rattle.transcript_law.specs.FeedingRows.{GoesOn, down, feeding, has_one, has_streams, one_node, streaming, streaming_both, two_nodes, up};
+ghost use Rattle.transcript_law.specs.FeedingRows.{GoesOn, down, feeding, has_one, has_streams, one_node, owning, streaming, streaming_both, two_nodes, up};
 ghost use Rattle.transcript_law.specs.TellingRows.{MayNotTell, NoneAt, NoneFirstAt, NoneOf, NotBehindStop, NotFirst, batch_at, branches_at, changes_here, ends_at, ends_for, log_at, makes_at, replies, stat_at, stops_at, turns_at};
 ghost use Rattle.dcp_producer.specs.Producers.{PlainStream};
 ghost use Rattle.vb_calls.specs.declared.stream.Stream.{Stream};
@@ -62,7 +62,7 @@ pub fn judged_own_lines()
 /// cut of its own link.
 pub fn judged_other_lines()
     ensures node { MayNotTell (verb.Node 0) (turns_at 0 0) }
-    ensures link { (buffer : ℕ) → MayNotTell (verb.Link 1 0 1 0 buffer) (ends_at 1) }
+    ensures link { (buffer : ℕ) (takeover : Bool) → MayNotTell (verb.Link 1 0 1 0 buffer takeover) (ends_at 1) }
     ensures clock { (nanos : ℕ) → MayNotTell (verb.AtNode 0 (node_verb.Clock nanos)) changes_here }
     ensures clock_closes { (nanos : ℕ) → MayNotTell (verb.AtNode 0 (node_verb.Clock nanos)) (closes 0 1) }
     ensures stop { (k : ℕ) (out : Outcome) → MayNotTell (verb.AtNode 0 (node_verb.Stop k out)) (stops_at 0) }
@@ -80,7 +80,8 @@ pub fn judged_other_lines()
 
 /// A link that feeds a replica from a node that runs is fed. It is not where its producer's node is down,
 /// or was not made, or the node of its vBucket is down; where there is no such vBucket, or it is active or
-/// dead; and where another link feeds the same one.
+/// dead; and where another link feeds the same one. One by which its vBucket took its branch over is fed
+/// exactly where that is active or dead.
 pub fn judged_fed_links()
     ensures fed { (ask : StreamAsk) → LinksAreFed (two_nodes up (has_one role.Replica) (feeding 1 ask ∷ [])) }
     ensures producer_down { (ask : StreamAsk) → LinksAreFed (two_nodes down (has_one role.Replica) (feeding 1 ask ∷ [])) → ⊥ }
@@ -89,6 +90,9 @@ pub fn judged_fed_links()
     ensures no_vb { (ask : StreamAsk) → LinksAreFed (two_nodes up up (feeding 1 ask ∷ [])) → ⊥ }
     ensures active { (ask : StreamAsk) → LinksAreFed (two_nodes up (has_one role.Active) (feeding 1 ask ∷ [])) → ⊥ }
     ensures dead { (ask : StreamAsk) → LinksAreFed (two_nodes up (has_one role.Dead) (feeding 1 ask ∷ [])) → ⊥ }
+    ensures owner { (ask : StreamAsk) → LinksAreFed (two_nodes up (has_one role.Active) (owning 1 ask ∷ [])) }
+    ensures gone_on { (ask : StreamAsk) → LinksAreFed (two_nodes up (has_one role.Dead) (owning 1 ask ∷ [])) }
+    ensures owns_none { (ask : StreamAsk) → LinksAreFed (two_nodes up (has_one role.Replica) (owning 1 ask ∷ [])) → ⊥ }
     ensures twice { (ask : StreamAsk) → LinksAreFed (two_nodes up (has_one role.Replica) (feeding 1 ask ∷ feeding 2 ask ∷ [])) → ⊥ }
 {}
 

@@ -1,33 +1,25 @@
 -- lines of a node and of a link that no prepare hears of: who waited waits on
 use Rattle.std.specs.Prelude.{◌≡◌, ◌<◌, ◌∷◌, ◌==◌, if◌then◌else◌}
-use Rattle.transcript_law.proofs.Words.{ℕ, Bool, true, false, List, [], refl, ap, sym, ◌∙◌, ⊎_elim, eq-eqb, ne_eqb, length, take, Option, Some, None, is_some, Act, Cause, Outcome, Plain, PlainLink, PlainNode, Role, States, Told, VbCall, VbReply, AdminCall}
-use Rattle.transcript_law.proofs.Words.{admin_line, after, client_at, dial_bytes, dial_of, done, end_closed, first_cause, hang_at, is_follower, is_next, moved_len, new_vb, own_link, peer_of, plain_step, pump_at, peer_pulled, quiet_reply, refusal, refusal_reply, refused_or, with_client, with_states}
+use Rattle.transcript_law.proofs.Words.{ℕ, Bool, true, false, List, [], refl, ap, sym, ◌∙◌, ⊎_elim, eq-eqb, ne_eqb, length, Option, Some, None, is_some, Cause, Outcome, Plain, PlainLink, PlainNode, Role, States, Told, AdminCall}
+use Rattle.transcript_law.proofs.Words.{admin_line, after, client_at, dial_of, done, end_closed, first_cause, hang_at, new_vb, own_link, peer_of, pump_at, peer_pulled, refusal, refused_or, with_client, with_states}
 use Rattle.client_session.specs.declared.session.Awaited.{Awaited}
 use Rattle.disk_journals.specs.{Arms.{opens_all}, Books.{Book}}
-use Rattle.durability.specs.{Laws.{Waits}, declared.waiting.Waiting.{Waiting}}
-use Rattle.node_core.proofs.Conduct.{bytes_follow}
 use Rattle.node_core.specs.Admin.{admin_job}
 use Rattle.node_core.specs.Clients.{ClientPulled, PlainClient, client_ended, client_pulled, new_client}
-use Rattle.node_core.specs.Conduct.{FollowsAt, KeepsLink, RollsAt}
-use Rattle.node_core.specs.Dials.{dial_due, untold}
+use Rattle.node_core.specs.Dials.{dial_due}
 use Rattle.node_core.specs.Loading.{are_short, starts_of}
-use Rattle.node_world.specs.{Arms.{fired_by, placed}, Dues.{due_at, due_in, due_of, is_counted}, Nodes.{hung_if, pull_at, pull_if, vb_made, with_clients_ended}, Power.{burnt_arm, loaded_node, not_opened, start_at, start_if, start_one, started_by, starts_from}, World.{down_in}}
+use Rattle.node_world.specs.{Arms.{fired_by}, Dues.{due_at, due_in, due_of, is_counted}, Nodes.{hung_if, pull_at, pull_if, vb_made, with_clients_ended}, Power.{burnt_arm, loaded_node, not_opened, start_at, start_if, start_one, started_by, starts_from}}
 use Rattle.node_world.specs.declared.arm.Fired.{Fired}
 use Rattle.node_world.specs.declared.arm.Fired.TheVariants as fired
 use Rattle.node_world.specs.declared.script_node.TheConstants.{MAX_CLIENTS}
 use Rattle.std.proofs.lemmas.Bool.{cases_eq}
 use Rattle.std.specs.Option.{option_map}
-use Rattle.transcript_law.proofs.awaiting.{Jobs.{IsIdle, idle_leaves, job_idle, ran_idle}, States.{Kept, job_leaves}, Stays.{NoneIn, NoneWaits, Stays, none_on, put_none, stays_kept, stays_none, stays_same}}
-use Rattle.transcript_law.proofs.invariant.{AtRest.{IsAside, aside}, Ranged.{pull_same}, TimelyCalls.{MakesJob, closed_makes, due_makes, pull_makes, pulled_makes}}
+use Rattle.transcript_law.proofs.awaiting.{Jobs.{IsIdle, job_idle, ran_idle}, States.{Kept}, Stays.{NoneIn, NoneWaits, Stays, none_on, put_none, stays_kept, stays_none, stays_same}}
+use Rattle.transcript_law.proofs.invariant.{Ranged.{pull_same}, TimelyCalls.{MakesJob, closed_makes, due_makes, pull_makes, pulled_makes}}
 use Rattle.transcript_law.proofs.lines.Pulling.{Takes}
-use Rattle.transcript_law.specs.Waits.{IsOutstandingAt, LeavesOthers, NoneWaitsInVain}
-use Rattle.vb_calls.specs.Following.{completed_act, receive_as, rolled_vb}
-use Rattle.vb_calls.specs.State.{pending_of}
+use Rattle.transcript_law.specs.Waits.{IsOutstandingAt, NoneWaitsInVain}
 use Rattle.vb_calls.specs.declared.calls.VbAnswer.TheVariants as answer
-use Rattle.vb_calls.specs.declared.calls.VbCall.TheVariants as call
 use Rattle.vb_events.specs.declared.event.Cause.TheVariants as cause
-use Rattle.vb_types.specs.declared.change.Change.{Change}
-use Rattle.vb_types.specs.declared.status.Status.TheVariants as status
 
 -- ---- clients' connections
 
@@ -111,37 +103,7 @@ made_stays n v role uuid node rest = by (node.vbs v) refl
 pub admin_stays : (n v : ℕ) (asked : AdminCall) (node : PlainNode) → MakesJob IsIdle (admin_job n v asked) → Stays (Some node) (Some (admin_line n v asked node).0)
 admin_stays n v asked node makes = stays_kept node (admin_line n v asked node).0 (λ c. refl) (job_idle (admin_job n v asked) node.vbs node.shelves makes)
 
--- the calls of a follower leave what waits
-module _ (vb : Plain) where
-  received : (w : Waiting) (c : Change) (refused other : VbReply) → Waits w vb.waiting → (b d : Bool) (a : Option Act) → let x : Plain × VbReply = if b then (if d then receive_as a vb c else (vb, other)) else (vb, refused) in Waits w x.0.waiting
-  received w c refused other i false d a = i
-  received w c refused other i true false a = i
-  received w c refused other i true true None = i
-  received w c refused other i true true (Some a) = i
-
-  rolled : (w : Waiting) (back : Plain) (said refused : VbReply) → Waits w vb.waiting → Waits w back.waiting → (b : Bool) → let x : Plain × VbReply = if b then (back, said) else (vb, refused) in Waits w x.0.waiting
-  rolled w back said refused i j true = j
-  rolled w back said refused i j false = i
-
-  aside_leaves : (made : VbCall) → IsAside made → LeavesOthers vb (plain_step vb made)
-  aside_leaves (call.CloseStream id) k w i = idle_leaves vb (call.CloseStream id) tt w i
-  aside_leaves (call.Adopt log) k w i = idle_leaves vb (call.Adopt log) tt w i
-  aside_leaves (call.Marker start end) k w i = idle_leaves vb (call.Marker start end) tt w i
-  aside_leaves (call.Receive c) k w i = received w c (refusal_reply status.NotMyVbucket) (refusal_reply status.Erange) i (is_follower vb.role) (is_next vb.position c.seq) (completed_act (pending_of vb c.key) c.act)
-  aside_leaves (call.RollTo at image cas) k w i = rolled w (rolled_vb vb at image cas) (quiet_reply (answer.Num at)) (refusal_reply status.NotMyVbucket) i i (is_follower vb.role)
-  aside_leaves call.Ask k w i = i
-  aside_leaves call.Due k w i = i
-  aside_leaves call.Stat k w i = i
-  aside_leaves other k w i = absurd k
-
 -- ---- links
-
-pub down_stays : (wanted : ℕ) (link : PlainLink) (node : PlainNode) → link.consumer.dialed.takeover ≡ false → Stays (Some node) (Some (down_in wanted link node).0)
-down_stays wanted link node alone =
-    let d = link.consumer.dialed in let x = placed d.vb node in
-    stays_kept node (down_in wanted link node).0 (λ c. refl)
-    (job_leaves (λ vb. Unit {0}) IsAside (λ vb made k u. tt) (λ id. tt) (λ vb made k u. aside_leaves vb made k) (FollowsAt d) (RollsAt d) (KeepsLink (untold (dial_of link))) (λ m made f. aside d m made alone f)
-    (dial_bytes (take (moved_len wanted link.down) link.down) (dial_of link)) x.vbs x.shelves (bytes_follow (take (moved_len wanted link.down) link.down) (dial_of link)) (λ v vb e. tt))
 
 pub pump_stays : (frames : ℕ) (link : PlainLink) (node : PlainNode) → Stays (Some node) (Some (pump_at frames link node).0)
 pump_stays frames link node = stays_kept node (pump_at frames link node).0 (λ c. refl) (ran_idle (peer_pulled frames (peer_of link)) node.vbs (pulled_makes IsIdle idle_takes frames (peer_of link)))

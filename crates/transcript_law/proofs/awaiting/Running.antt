@@ -1,13 +1,13 @@
 -- behind each line of a script whose lines' numbers rise, nobody waits for nothing
 use Rattle.std.specs.Prelude.{◌≡◌, ◌∷◌, ◌++◌}
 use Rattle.transcript_law.proofs.Words.{ℕ, true, List, [], refl, ap, sym, ◌∙◌, subst, Option, Some, None, All-head, All-tail, AdminCall, Cause, Chronicle, ClientVerb, LinkVerb, NodeVerb, PlainLink, PlainNode, PlainWorld, Role, ScriptFits, ScriptLine, Told, Verb, VbVerb, VerbFits}
-use Rattle.transcript_law.proofs.Words.{bytes_at, client_at, clock_at, consumer_node, done, empty_chronicle, empty_node, empty_world, first_cause, hang_at, known_of, link_number, node_causes, on_link, on_node, producer_node, promote_causes, pump_at, refused_or, role_outcome, row_at, turn_causes, unlinked, up_at, uuid_causes, vb_at, verb_step, with_branches, with_links, with_node_at, world_of, world_step, admin_line, groups_from, replica_at}
+use Rattle.transcript_law.proofs.Words.{bytes_at, client_at, clock_at, consumer_node, done, empty_chronicle, empty_node, empty_world, first_cause, hang_at, known_of, link_number, node_causes, on_link, on_node, producer_node, promote_causes, refused_or, role_outcome, row_at, turn_causes, unlinked, up_at, uuid_causes, vb_at, verb_step, with_branches, with_links, with_node_at, world_of, world_step, admin_line, groups_from, replica_at}
 use Rattle.node_core.specs.Admin.{admin_job, changes_role}
 use Rattle.node_world.specs.{Arms.{fail_arm, stop_arm}, Nodes.{arm_at, chain_line, flush_line, limit_causes, pull_at, save_line, tick_line}, Power.{crash_causes, down_lines, dropped, start_at, start_causes}, Turns.{promote_step, turn_step}, World.{base_of, client_verb_at, cut_outcome, down_in, down_outcome, link_causes, link_verb_step, node_verb_step, vb_verb_step, with_dialed, ask_in}, Worlds.{on_made}}
-use Rattle.transcript_law.proofs.Runs.{group_agrees, group_serves, row_of, start, start_serves}
-use Rattle.transcript_law.proofs.awaiting.{Idles.{admin_stays, down_stays, due_none, hang_stays, made_stays, open_waits, pull_stays, pump_stays, start_stays}, Jobs.{IsIdle}, Nodes.{bytes_wait, chain_waits, flush_waits, save_waits, tick_waits}, Peers.{up_waits}, Posts.{Good}, Scripts.{Known, good}}
+use Rattle.transcript_law.proofs.Runs.{Along, along, along_start, row_of}
+use Rattle.transcript_law.proofs.awaiting.{Downs.{down_stays}, Givings.{pump_none}, Idles.{admin_stays, due_none, hang_stays, made_stays, open_waits, pull_stays, start_stays}, Jobs.{IsIdle}, Nodes.{bytes_wait, chain_waits, flush_waits, save_waits, tick_waits}, Peers.{up_waits}, Posts.{Good}, Scripts.{Known, good}}
 use Rattle.transcript_law.proofs.awaiting.{Stays.{NoneIn, NoneWaits, Stays, armed_none, broken_none, dropped_stay, none_after, none_on, on_link_none, on_made_none, on_node_none, put_none, unless_none, unlinked_stays}, Turns.{role_none}}
-use Rattle.transcript_law.proofs.invariant.{Agreement.{Agrees}, AtRest.{AreAtRest, line_rests, start_rests, still_world}, Begun.{ServesOpen}, ClientWorlds.{ConnsAre, start_conns}, Clients.{line_heard}, LinkRows.{found_is_link}, Ranged.{IsRanged, start_ranged}, TimelyCalls.{MakesJob}}
+use Rattle.transcript_law.proofs.invariant.{Agreement.{Agrees}, AtRest.{AreAtRest, line_rests, start_rests, still_world}, Begun.{ServesOpen}, ClientWorlds.{ConnsAre, start_conns}, Clients.{line_heard}, Ranged.{IsRanged, start_ranged}, TimelyCalls.{MakesJob}}
 use Rattle.transcript_law.proofs.lines.Risen.{group_last, line_number, script_last}
 use Rattle.transcript_law.proofs.verbs.Rows.{Row}
 use Rattle.transcript_law.specs.{Chronicles.{after_group, at_line}, LawfulAnswers.{IsStill}, LinesTold.{LastLine, number_of, risen_through, risen_to}, Prefixes.{known_after, world_after}, Waits.{NoneWaitsInVain}}
@@ -72,17 +72,17 @@ module _ (w : PlainWorld) (r : Chronicle) (k : Known w r) (last : LastLine) (ris
     where
       came : NoneWaits (on_link w l consumer_node (down_in wanted)).0
       came = on_link_none w l consumer_node (down_in wanted) none
-          (λ link node found e here. none_on (Some node) (Some (down_in wanted link node).0) (down_stays wanted link node (k.agrees.1.links link (found_is_link l w.links link found).0).alone) here)
+          (λ link node found e here. none_on (Some node) (Some (down_in wanted link node).0) (down_stays wanted link node (well (consumer_node link) node e here).still) here)
 
       by : (o : Option PlainLink) → NoneWaits (down_outcome w l o (on_link w l consumer_node (down_in wanted))).0
       by None = came
       by (Some link) = broken_none (consumer_node link) l w (on_link w l consumer_node (down_in wanted)) came
-  link_none l (LinkVerb.Pump frames) = on_link_none w l producer_node (pump_at frames) none (λ link node found e here. none_on (Some node) (Some (pump_at frames link node).0) (pump_stays frames link node) here)
+  link_none l (LinkVerb.Pump frames) = pump_none w none k.ranged (still_world w r k.agrees k.rest) (λ n node e. well n node e (here_of n node e)) l frames
   link_none l LinkVerb.Cut = elim (row_at link_number l w.links) as (λ o. NoneWaits (cut_outcome w o).0) [ None ↦ none | Some link ↦ none_after w (unlinked link w) (unlinked_stays w link) none ]
 
   line_none : (number : ℕ) (what : Verb) → NoneWaits (verb_step w number what).0
   line_none number (Verb.Node n) = unless_none w (with_node_at w n empty_node, done []) (first_cause (node_causes w n)) none (put_none w n empty_node none (λ c client a lt is has. absurd (cc is)))
-  line_none number (Verb.Link l m n v buffer) = unless_none w (with_links w (with_dialed number l m n v buffer w.links (ask_in w n v)), done []) (first_cause (link_causes w l m n v)) none none
+  line_none number (Verb.Link l m n v buffer takeover) = unless_none w (with_links w (with_dialed number l m n v buffer takeover w.links (ask_in w n v)), done []) (first_cause (link_causes w l m n v)) none none
   line_none number (Verb.AtNode n what) = node_none n what
   line_none number (Verb.AtVb n v what) = vb_none n v what
   line_none number (Verb.AtClient n c what) = client_none n number c what
@@ -104,26 +104,26 @@ none_risen : (o : Option LastLine) (w : PlainWorld) → number_of o ≡ None →
 none_risen None w e = tt
 none_risen (Some line) w e = absurd (cc e)
 
-waits_from : (w : PlainWorld) (r : Chronicle) (script : List ScriptLine) → ScriptFits script → IsRanged w → ConnsAre w r.conn_at → ServesOpen r.last r.conn_at → AreAtRest w → IsStill r → Agrees w r → WaitIf r.last w
+waits_from : (w : PlainWorld) (r : Chronicle) (script : List ScriptLine) → ScriptFits script → Along w r → AreAtRest w → WaitIf r.last w
     → WaitIf (known_after r script (groups_from w script)).last (world_after w script)
 unfolding world_step
-waits_from w r [] fits ranged are serves rest calm a all = all
-waits_from w r (line ∷ lines) fits ranged are serves rest calm a all =
+waits_from w r [] fits x rest all = all
+waits_from w r (line ∷ lines) fits x rest all =
     let fit = All-head (λ (x : ScriptLine). VerbFits x.verb) line lines fits in let outcome = verb_step w line.line line.verb in let row : Row w line.verb outcome = row_of w line.line line.verb in
     let r0 : Chronicle = at_line r line.line in
-    let r' : Chronicle = after_group r0 line.verb outcome.1.events outcome.1.answer in let w' : PlainWorld = with_branches outcome.1.events outcome.0 in let now = group_agrees w r line.line line.verb fit ranged are serves calm a in
+    let r' : Chronicle = after_group r0 line.verb outcome.1.events outcome.1.answer in let w' : PlainWorld = with_branches outcome.1.events outcome.0 in let now = along w r line fit x in
     let next : (o : Option LastLine) → r.last ≡ o → WaitIf o w → WaitIf r'.last w' = λ o.
     elim o as (λ o. r.last ≡ o → WaitIf o w → WaitIf r'.last w') [
       | None ↦ λ e wait. none_risen r'.last w' (group_last r0 line.verb outcome.1.events outcome.1.answer ∙ line_number r.last line.line ∙ ap (λ o. risen_to (number_of o) line.line) e)
-      | Some last ↦ λ e wait. wait_if r'.last w' (line_none w r (record { agrees = a; rest = rest; ranged = ranged }) last e wait line.line line.verb)
+      | Some last ↦ λ e wait. wait_if r'.last w' (line_none w r (record { agrees = x.agrees; rest = rest; ranged = x.ranged }) last e wait line.line line.verb)
     ] in
-    waits_from w' r' lines (All-tail (λ (x : ScriptLine). VerbFits x.verb) line lines fits) (row.ranged fit ranged) (line_heard r.conn_at w line.line are line.verb fit).1 (group_serves r line.line line.verb outcome.1.events outcome.1.answer)
-    (line_rests w r outcome (row.rests r ranged a) a rest w' r' refl now) (tt, refl) now (next r.last refl all)
+    waits_from w' r' lines (All-tail (λ (x : ScriptLine). VerbFits x.verb) line lines fits) now
+    (line_rests w r outcome (row.rests r x.ranged x.handed x.agrees) x.agrees rest w' r' refl now.agrees) (next r.last refl all)
 
 -- behind a whole one
 pub script_waits : (script : List ScriptLine) → ScriptFits script → (last : LastLine) → (known_of script).last ≡ Some last → NoneWaits (world_of script)
 script_waits script fits last e =
-    subst (λ o. WaitIf o (world_of script)) e (waits_from empty_world empty_chronicle script fits start_ranged start_conns start_serves (start_rests empty_world (λ n. refl)) (tt, refl) start (λ n. tt))
+    subst (λ o. WaitIf o (world_of script)) e (waits_from empty_world empty_chronicle script fits along_start (start_rests empty_world (λ n. refl)) (λ n. tt))
 
 pub nobody_waits : (script : List ScriptLine) → ScriptFits script → (line : ℕ) → risen_through (Some 0) script ≡ Some line → (n : ℕ) (node : PlainNode) → (world_of script).nodes n ≡ Some node → NoneWaitsInVain node
 nobody_waits script fits line rises n node there = by (known_of script).last refl

@@ -6,7 +6,7 @@ use Rattle.node_core.specs.Clients.{PlainClient}
 use Rattle.node_core.specs.Admin.{changes_role}
 use Rattle.node_world.specs.Nodes.{all_posted, chain_line, flush_line, save_line, tick_line}
 use Rattle.node_world.specs.World.{groups_from}
-use Rattle.transcript_law.proofs.Runs.{group_agrees, group_serves, row_of, start, start_serves}
+use Rattle.transcript_law.proofs.Runs.{Along, along, along_start, row_of}
 use Rattle.transcript_law.proofs.awaiting.{Nodes.{bytes_wait, chain_waits, flush_waits, number_some, save_waits, tick_waits}, Peers.{up_waits}, Posts.{Good}, Roles.{role_waits}}
 use Rattle.transcript_law.proofs.invariant.{Agreement.{Agrees, AgreesAt}, AtRest.{AreAtRest, Still, line_rests, start_rests}, Begun.{ServesOpen}, CallsKept.{AllAt}, ClientWorlds.{ConnsAre, start_conns}, Clients.{line_heard}, Owing.{OwedIf, OwedIn}, Ranged.{IsRanged, NodeRanged, NodeRangedIf, start_ranged}, Seats.{seat}}
 use Rattle.transcript_law.proofs.verbs.Rows.{Row}
@@ -19,18 +19,18 @@ pub record Known (w : PlainWorld) (r : Chronicle) : Type 0 where
   pub rest : AreAtRest w
   pub ranged : IsRanged w
 
-known_from : (w : PlainWorld) (r : Chronicle) (script : List ScriptLine) → ScriptFits script → IsRanged w → ConnsAre w r.conn_at → ServesOpen r.last r.conn_at → AreAtRest w → IsStill r → Agrees w r
+known_from : (w : PlainWorld) (r : Chronicle) (script : List ScriptLine) → ScriptFits script → Along w r → AreAtRest w
     → Known (world_after w script) (known_after r script (groups_from w script))
 unfolding world_step
-known_from w r [] fits ranged are serves rest calm a = record { agrees = a; rest = rest; ranged = ranged }
-known_from w r (line ∷ lines) fits ranged are serves rest calm a =
+known_from w r [] fits x rest = record { agrees = x.agrees; rest = rest; ranged = x.ranged }
+known_from w r (line ∷ lines) fits x rest =
     let fit = All-head (λ (x : ScriptLine). VerbFits x.verb) line lines fits in let outcome = verb_step w line.line line.verb in let row : Row w line.verb outcome = row_of w line.line line.verb in
-    let r' : Chronicle = after_group (at_line r line.line) line.verb outcome.1.events outcome.1.answer in let now = group_agrees w r line.line line.verb fit ranged are serves calm a in
-    known_from (with_branches outcome.1.events outcome.0) r' lines (All-tail (λ (x : ScriptLine). VerbFits x.verb) line lines fits) (row.ranged fit ranged) (line_heard r.conn_at w line.line are line.verb fit).1 (group_serves r line.line line.verb outcome.1.events outcome.1.answer)
-    (line_rests w r outcome (row.rests r ranged a) a rest (with_branches outcome.1.events outcome.0) r' refl now) (tt, refl) now
+    let r' : Chronicle = after_group (at_line r line.line) line.verb outcome.1.events outcome.1.answer in let now = along w r line fit x in
+    known_from (with_branches outcome.1.events outcome.0) r' lines (All-tail (λ (x : ScriptLine). VerbFits x.verb) line lines fits) now
+    (line_rests w r outcome (row.rests r x.ranged x.handed x.agrees) x.agrees rest (with_branches outcome.1.events outcome.0) r' refl now.agrees)
 
 pub known : (script : List ScriptLine) → ScriptFits script → Known (world_of script) (known_of script)
-known script fits = known_from empty_world empty_chronicle script fits start_ranged start_conns start_serves (start_rests empty_world (λ n. refl)) (tt, refl) start
+known script fits = known_from empty_world empty_chronicle script fits along_start (start_rests empty_world (λ n. refl))
 
 -- a node of it, where the numbers of lines rise
 module _ (w : PlainWorld) (r : Chronicle) (k : Known w r) (n : ℕ) (node : PlainNode) (there : w.nodes n ≡ Some node) where

@@ -28,7 +28,7 @@ cut_stays : (o : Option PlainLink) (w : PlainWorld) → AllStay w (cut_off o w).
 cut_stays None w = all_same w
 cut_stays (Some link) w = unlinked_stays w link
 
-ended_all_stay : (n v : ℕ) (ids : List ℕ) (w : PlainWorld) → AllStay w (with_ended n v ids w)
+pub ended_all_stay : (n v : ℕ) (ids : List ℕ) (w : PlainWorld) → AllStay w (with_ended n v ids w)
 ended_all_stay n v ids w = if_stays w n (with_clients_ended v ids) (ended_stays v ids)
 
 module _ (n v : ℕ) (w : PlainWorld) (all : NoneWaits w) (ranged : IsRanged w) (still : InWorld Still w) where

@@ -3,7 +3,7 @@ use Rattle.std.specs.Prelude.{◌≡◌, ℕ, ◌+◌, ◌<◌, ◌^◌, ◌++�
 use Rattle.std.specs.List.{sum_by}
 use Rattle.std.proofs.lemmas.List.{take-append-drop}
 use Rattle.std.proofs.lemmas.List.Sums.{sum_by-append}
-use Rattle.transcript_law.proofs.Words.{false, ap, sym, ◌∙◌, subst, inl, inr, ⊎_elim, arith, append-nil, append_assoc, Option, None, All, All-cons, All-nil, Frame, Readable, DcpMsg, dcp_frame, spelling, frames_in, left_of, States, after_job, over_why, DialResult, dial_bytes, PlainLink, PlainProducer, PlainConsumer, PlainWorld, dial_of, Chronicle, Cluster, Member, Plain, Granted}
+use Rattle.transcript_law.proofs.Words.{Role, ap, sym, ◌∙◌, subst, inl, inr, ⊎_elim, arith, append-nil, append_assoc, Option, None, All, All-cons, All-nil, Frame, Readable, DcpMsg, dcp_frame, spelling, frames_in, left_of, States, after_job, over_why, DialResult, dial_bytes, PlainLink, PlainProducer, PlainConsumer, PlainWorld, dial_of, Chronicle, Cluster, Member, Plain, Granted}
 use Rattle.vb_calls.specs.Shelves.{Shelves}
 use Rattle.mcbp_frame.proofs.Pieces.{frames-append}
 use Rattle.transcript_law.proofs.links.Unread.{front_readable}
@@ -27,12 +27,12 @@ pub record Writing (link : PlainLink) : Type 0 where
   pub heard : link.down_heard ++ link.down ≡ spelled said
   pub opaque : link.consumer.asked < 2 ^ 32
   pub vb : link.consumer.dialed.vb < 2 ^ 16
-  pub alone : link.consumer.dialed.takeover ≡ false
 
-small_opaque : {fv : Wants} {kn : Member} {pv : Option Plain} {leader : Member} {g : Option Granted} {point : Option ℕ} {served : PlainProducer} {asker : PlainConsumer} {asked said : List Frame} → EndsStand fv kn pv leader g point served asker asked said → asker.asked < 2 ^ 32
+small_opaque : {fv : Wants} {kn : Member} {pv : Option Plain} {leader : Member} {g : Option Granted} {stated : Option Role} {point : Option ℕ} {served : PlainProducer} {asker : PlainConsumer} {asked said : List Frame} → EndsStand fv kn pv leader g stated point served asker asked said → asker.asked < 2 ^ 32
 small_opaque (EndsStand.IsAsking ask none x) = x.consumer.small
 small_opaque (EndsStand.IsRefusedYet none x) = x.consumer.small
-small_opaque (EndsStand.IsStreaming x) = x.consumer.small
+small_opaque (EndsStand.IsStreaming x told) = x.consumer.small
+small_opaque (EndsStand.IsHeir x told) = x.small
 
 pub writing_of : (w : PlainWorld) (r : Chronicle) (c : Cluster) (link : PlainLink) → LinkAgrees w r c link [] [] → Writing link
 writing_of w r c link la = record {
@@ -44,7 +44,6 @@ writing_of w r c link la = record {
   heard = la.talk.downs.bytes ∙ ap spelled (sym la.talk.downs.joined);
   opaque = small_opaque la.talk.stands;
   vb = let few = la.small.1 in omega arith;
-  alone = la.alone;
 }
 
 -- more frames behind those that were written
@@ -98,7 +97,7 @@ module _ (link : PlainLink) (n : ℕ) (states : States) (shelves : Shelves) wher
     more = written link.consumer.dialed.vb link.consumer.asked d.more
 
     good : All Readable more
-    good = let o = d.asked in written_readable link.consumer.dialed.vb link.consumer.asked d.more writes.vb (omega arith) (d.noops (came_readable writes)) (d.states writes.alone)
+    good = let o = d.asked in written_readable link.consumer.dialed.vb link.consumer.asked d.more writes.vb (omega arith) (d.noops (came_readable writes))
 
     -- so many bytes came that count
     low : counted_bytes frames < 2 ^ 32

@@ -81,7 +81,7 @@ dropped_among n out w x i =
     unlinked_among (filter (touches n) w.links) w x (subst (IsLink x) (if_links n (stopped_node out) (all_cut n w) ((all_cut n w).nodes n)) i)
 
 -- an arm that fires
-fire_among : (n : ℕ) (out : Left) (how : Fired) (came : Outcome) → IsAmong came.0.links (after_fire n out how came).0.links
+pub fire_among : (n : ℕ) (out : Left) (how : Fired) (came : Outcome) → IsAmong came.0.links (after_fire n out how came).0.links
 fire_among n out fired.No came x i = i
 fire_among n out fired.Failed came x i = i
 fire_among n out fired.Stopped came x i = dropped_among n out came.0 x i
@@ -103,17 +103,17 @@ with_broken_among n l w came x i = by (is_broken_answer came.1.answer) i
 
 -- ---- changes of role
 
-cut_among : (o : Option PlainLink) (w : PlainWorld) → IsAmong w.links (cut_off o w).0.links
+pub cut_among : (o : Option PlainLink) (w : PlainWorld) → IsAmong w.links (cut_off o w).0.links
 cut_among None w x i = i
 cut_among (Some link) w x i = out_among (link_number link) w.links x i
 
 ended_flow : (n v : ℕ) (ids : List ℕ) (y : PlainLink) → flow_of (link_ended n v ids y) ≡ flow_of y
 ended_flow n v ids y = elim (producer_node y == n) as (λ b. flow_of (if b then record y { server = ended_by v ids y.server } else y) ≡ flow_of y) [ true ↦ refl | false ↦ refl ]
 
-ended_on : (n v : ℕ) (ids : List ℕ) (links : List PlainLink) → FlowOn links (links_ended n v ids links)
+pub ended_on : (n v : ℕ) (ids : List ℕ) (links : List PlainLink) → FlowOn links (links_ended n v ids links)
 ended_on n v ids links x i = let (y, j, e) = told_is_link n v ids links x i in (y, j, ap flow_of e ∙ ended_flow n v ids y)
 
-posted_links : (n : ℕ) (resolved : List Resolved) (came : Outcome) → (posted_in n resolved came).0.links ≡ came.0.links
+pub posted_links : (n : ℕ) (resolved : List Resolved) (came : Outcome) → (posted_in n resolved came).0.links ≡ came.0.links
 posted_links n resolved came = by (came.0.nodes n)
   where
     by : (o : Option PlainNode) → (posted_at n resolved came.0 came.1 o).0.links ≡ came.0.links

@@ -6,14 +6,17 @@ use Rattle.mcbp_frame.specs.declared.frame.Frame.{Frame}
 use Rattle.mcbp_frame.specs.Cutting.{frames_in}
 use Rattle.mcbp_dcp.specs.DcpFrames.{dcp_frame}
 use Rattle.dcp_consumer.specs.Dialing.{buffer_request}
+use Rattle.dcp_consumer.specs.declared.handshake.Dialed.{Dialed}
 use Rattle.node_world.specs.Links.{PlainLink}
 use Rattle.node_world.specs.Worlds.{PlainWorld}
 use Rattle.transcript_law.specs.Balance.{acknowledged_by, longest, stream_len}
 use Rattle.transcript_law.proofs.invariant.Agreement.{IsLink}
 use Rattle.transcript_law.proofs.balance.{Measures.{over}, Rooms.{Room, no_room, room_of}}
 
--- a link's buffer, its producer's window, and the bytes on its ways
+-- how a link was dialed and with which opaque its consumer asks, its buffer, its producer's window, and the bytes on its ways
 pub record Flow : Type 0 where
+  pub dialed : Dialed
+  pub asked : ℕ
   pub buffer : ℕ
   pub window : Room
   pub up_heard : List ℕ
@@ -22,7 +25,7 @@ pub record Flow : Type 0 where
   pub down : List ℕ
 
 abbrev pub flow_of : PlainLink → Flow
-flow_of link = record { buffer = link.consumer.dialed.buffer; window = room_of link.server; up_heard = link.up_heard; up = link.up; down_heard = link.down_heard; down = link.down }
+flow_of link = record { dialed = link.consumer.dialed; asked = link.consumer.asked; buffer = link.consumer.dialed.buffer; window = room_of link.server; up_heard = link.up_heard; up = link.up; down_heard = link.down_heard; down = link.down }
 
 -- the request for a window of this size
 abbrev pub size_frame : ℕ → Frame

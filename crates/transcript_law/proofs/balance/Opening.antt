@@ -2,7 +2,7 @@
 use Rattle.std.specs.Prelude.{◌≡◌, ℕ, ◌<◌, ◌^◌, ◌==◌, ◌++◌, List, [], ◌∷◌}
 use Rattle.std.specs.List.{concat, sum_by}
 use Rattle.std.proofs.lemmas.Bool.Decides.{nat_tests}
-use Rattle.transcript_law.proofs.Words.{false, refl, ap, sym, ◌∙◌, subst, inl, inr, ⊎_elim, arith, append-nil, concat-append, map, map-append, Option, Some, None, All, All-cons, All-nil, Cause, Frame, Readable, DcpMsg, dcp_frame, spelling, frames_in, StreamAsk, requests, open_request, sync_request, name_request}
+use Rattle.transcript_law.proofs.Words.{Bool, false, refl, ap, sym, ◌∙◌, subst, inl, inr, ⊎_elim, arith, append-nil, concat-append, map, map-append, Option, Some, None, All, All-cons, All-nil, Cause, Frame, Readable, DcpMsg, dcp_frame, spelling, frames_in, StreamAsk, requests, open_request, sync_request, name_request}
 use Rattle.transcript_law.proofs.Words.{PlainWorld, new_link, link_step, link_causes, with_dialed, with_links, ask_in, first_cause, refused_or, done}
 use Rattle.dcp_consumer.specs.Dialing.{flagged, numbered, stream_opaque}
 use Rattle.dcp_consumer.specs.declared.handshake.Dialed.{Dialed}
@@ -50,22 +50,22 @@ module _ (d : Dialed) (ask : StreamAsk) (small : (d.node < 16) × (d.vb < 1024) 
   asked = ap frames_in (requests_spelled d ask ∙ ap spelled (requests_are o d out buffered)) ∙ frames_back (all_requests o d out) requests_readable
 
 -- nothing is outstanding yet, and its consumer asks for the window's size
-pub new_level : (line l m n v buffer : ℕ) (ask : StreamAsk) → (n < 16) × (v < 1024) × (buffer < 2 ^ 32) → Level (new_link line l m n v buffer ask)
-new_level line l m n v buffer ask small b =
-    let d : Dialed = record { link = l; node = n; vb = v; buffer = buffer; takeover = false } in
-    let none = requests_none (stream_opaque buffer) d (flagged false ask) in
+pub new_level : (line l m n v buffer : ℕ) (takeover : Bool) (ask : StreamAsk) → (n < 16) × (v < 1024) × (buffer < 2 ^ 32) → Level (new_link line l m n v buffer takeover ask)
+new_level line l m n v buffer takeover ask small b =
+    let d : Dialed = record { link = l; node = n; vb = v; buffer = buffer; takeover = takeover } in
+    let none = requests_none (stream_opaque buffer) d (flagged takeover ask) in
     let nothing : over stream_len [] ≡ 0 = ap (sum_by stream_len) no_frames in
-    subst (Holds buffer (room_of (new_link line l m n v buffer ask).server) (over stream_len [])) (sym (asked d ask small b.some)) (record {
+    subst (Holds buffer (room_of (new_link line l m n v buffer takeover ask).server) (over stream_len [])) (sym (asked d ask small b.some)) (record {
       balance = omega arith;
       window = inr (refl, inr (inl refl));
       below = omega arith;
     })
 
 -- `link L M N V BUF`
-pub link_level : (w : PlainWorld) (line l m n v buffer : ℕ) → (n < 16) × (v < 1024) × (buffer < 2 ^ 32) → AllLevel w → AllLevel (link_step w line l m n v buffer).0
-link_level w line l m n v buffer small all = by (first_cause (link_causes w l m n v)) (ask_in w n v)
+pub link_level : (w : PlainWorld) (line l m n v buffer : ℕ) (takeover : Bool) → (n < 16) × (v < 1024) × (buffer < 2 ^ 32) → AllLevel w → AllLevel (link_step w line l m n v buffer takeover).0
+link_level w line l m n v buffer takeover small all = by (first_cause (link_causes w l m n v)) (ask_in w n v)
   where
-    by : (why : Option Cause) (asks : Option StreamAsk) → AllLevel (refused_or why w (with_links w (with_dialed line l m n v buffer w.links asks), done [])).0
+    by : (why : Option Cause) (asks : Option StreamAsk) → AllLevel (refused_or why w (with_links w (with_dialed line l m n v buffer takeover w.links asks), done [])).0
     by (Some why) asks x i = all x i
     by None None x i = all x i
-    by None (Some ask) x i = ⊎_elim (λ same. subst Level (sym same) (new_level line l m n v buffer ask small)) (λ old. all x old) (is_link_more x (new_link line l m n v buffer ask) w.links i)
+    by None (Some ask) x i = ⊎_elim (λ same. subst Level (sym same) (new_level line l m n v buffer takeover ask small)) (λ old. all x old) (is_link_more x (new_link line l m n v buffer takeover ask) w.links i)

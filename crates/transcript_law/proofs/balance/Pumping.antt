@@ -1,42 +1,58 @@
 -- the line `pump`: the balance of its link, turn by turn
-use Rattle.std.specs.Prelude.{◌≡◌, ◌⊎◌, ◌∷◌, ℕ, ◌+◌, ◌<◌, ◌^◌, ◌++◌, List, [], length}
-use Rattle.transcript_law.proofs.Words.{zero, suc, Bool, true, false, refl, ap, sym, ◌∙◌, subst, inl, inr, ⊎_elim, arith, append-nil, append_assoc, Option, Some, All, Frame, Readable, spelling, frames_in, States, Done, Turn, More, Stop, go_on, repeated, after, after_bind, frames_put, pulled, Halt, PlainStream, Served, begun, TakesSnapshots}
-use Rattle.transcript_law.proofs.Words.{row_at, row_put, PlainLink, PlainConsumer, PlainProducer, link_number, producer_node, PlainNode, PlainWorld, pull_result, PullResult, peer_pulled, peer_of, with_states, with_node_at, Chronicle, after_lines, Member, Plain, Granted}
+use Rattle.std.specs.Prelude.{◌≡◌, ◌⊎◌, ◌∷◌, ℕ, ◌+◌, ◌<◌, ◌≤◌, ◌^◌, ◌++◌, List, [], length}
+use Rattle.transcript_law.proofs.Words.{zero, suc, Bool, true, false, refl, ap, sym, ◌∙◌, subst, inl, inr, ⊎_elim, arith, append-nil, append_assoc, Option, Some, All, Frame, Readable, spelling, frames_in, States, Done, Turn, More, Stop, go_on, repeated, after, after_bind, frames_put, pulled, Halt, PlainStream, Served, begun, StaysSound, TakesSnapshots}
+use Rattle.transcript_law.proofs.Words.{row_at, PlainLink, PlainConsumer, PlainProducer, link_number, producer_node, PlainNode, PlainWorld, Role, Change, slice_get, pull_result, PullResult, peer_pulled, peer_of, Chronicle, after_lines, Member, Plain, Granted}
 use Rattle.mcbp_frame.proofs.Cases.{length-spelling}
 use Rattle.dcp_producer.specs.Pulling.{Pulling, none_quiet, one_frame, pull_of}
 use Rattle.transcript_law.proofs.balance.Rooms.{room_of}
 use Rattle.transcript_law.specs.Balance.{is_of_stream, stream_len}
 use Rattle.transcript_law.proofs.balance.{Levels.{Buffered, Holds, Level, WindowIs}, Measures.{over, over_more, over_one, spelled}, Putting.{HasStream, Passes, StreamFits, Went, none_went, one_went, put_len}, Stepping.{sized_if}, Upping.{later_frames}}
-use Rattle.transcript_law.proofs.invariant.{Agreement.{Agrees, ChangeFits, EndsStand, LinkAgrees, Wants, idle, kept_stream}, LinkRows.{found_is_link, put_is_found, put_same}, OneLink.{carries_same}, Carrying.{Relinked}}
-use Rattle.transcript_law.proofs.links.{PumpWorlds.{SoFar, TurnSoFar, TurnsSoFar, pumped, served_link}, Sent.{all_found, change_readable}, Turns.{turn}}
-use Rattle.transcript_law.proofs.verbs.NodeLines.{node_of_same_vbs}
+use Rattle.transcript_law.proofs.invariant.{Agreement.{Agrees, ChangeFits, EndsStand, Heir, LinkAgrees, Streaming, Wants, kept_stream}, LinkRows.{found_is_link, put_is_found}}
+use Rattle.transcript_law.proofs.links.{PumpWorlds.{LinkKnown, SoFar, TurnSoFar, TurnsSoFar, pumped, served_link}, Sent.{all_found, change_readable}, PullTurns.{turn}}
+use Rattle.transcript_law.proofs.verbs.PumpFrames.{first_so_far}
 
 -- a producer has no stream, or one, of which what it may put fits
 abbrev OneFits : List PlainStream → Type 0
 OneFits streams = (streams ≡ []) ⊎ ((stream : PlainStream) × (streams ≡ stream ∷ []) × StreamFits stream)
 
-module _ {fv : Wants} {kn : Member} {pv : Option Plain} {leader : Member} {g : Option Granted} {point : Option ℕ} {served : PlainProducer} {asker : PlainConsumer} {asked said : List Frame} where
-  stream_fits : asker.dialed.vb < 1024 → EndsStand fv kn pv leader g point served asker asked said → OneFits served.streams
+-- the stream that is kept
+kept_fits : {streams : List PlainStream} (over : Bool) (stream : PlainStream) → StreamFits stream → streams ≡ kept_stream over stream → OneFits streams
+kept_fits true stream fits kept = inl kept
+kept_fits false stream fits kept = inr (stream, kept, fits)
+
+-- behind all of a list there is nothing
+none_found : (xs : List Change) (n : ℕ) (c : Change) → length xs ≤ n → slice_get xs n ≡ Some c → ⊥
+none_found [] n c all here = cc
+none_found (x ∷ xs) zero c all here = omega arith
+none_found (x ∷ xs) (suc n) c all here = none_found xs n c (omega arith) here
+
+streaming_fits : {fv : Wants} {kn : Member} {pv : Option Plain} {leader : Member} {g : Option Granted} {served : PlainProducer} {asker : PlainConsumer} {asked said : List Frame} → asker.dialed.vb < 1024 → (x : Streaming fv kn pv leader g served asker asked said) → StreamFits x.serving.stream
+streaming_fits {asker = asker} few x =
+    let o : x.stream.opaque ≡ asker.asked = x.streams.put.opaque_is in
+    let v : x.stream.vb ≡ asker.dialed.vb = x.streams.put.vb_is in
+    let small : asker.asked < 2 ^ 32 = x.consumer.small in
+    record {
+      opaque = omega arith;
+      vb = omega arith;
+      item = λ c here. change_readable c x.stream.opaque x.stream.vb (all_found ChangeFits x.stream.items x.stream.next c x.streams.put.fits here) (omega arith) (omega arith);
+    }
+
+-- an heir's has no item to put
+heir_fits : {pv : Option Plain} {g : Option Granted} {served : PlainProducer} {asker : PlainConsumer} {asked said : List Frame} → asker.dialed.vb < 1024 → (x : Heir pv g served asker asked said) → StreamFits x.stream
+heir_fits {asker = asker} few x =
+    let o : x.stream.opaque ≡ asker.asked = x.opaque_is in
+    let v : x.stream.vb ≡ asker.dialed.vb = x.vb_is in
+    let small : asker.asked < 2 ^ 32 = x.small in
+    record { opaque = omega arith; vb = omega arith; item = λ c here. absurd (none_found x.stream.items x.stream.next c x.whole here) }
+
+module _ {fv : Wants} {kn : Member} {pv : Option Plain} {leader : Member} {g : Option Granted} {last : Option Role} {point : Option ℕ} {served : PlainProducer} {asker : PlainConsumer} {asked said : List Frame} where
+  stream_fits : asker.dialed.vb < 1024 → EndsStand fv kn pv leader g last point served asker asked said → OneFits served.streams
   stream_fits few (EndsStand.IsAsking ask none x) = inl x.no_stream
   stream_fits few (EndsStand.IsRefusedYet none x) = inl x.no_stream
-  stream_fits few (EndsStand.IsStreaming x) = by x.granted_is.over x.stream_is
-    where
-      own : StreamFits x.stream
-      own =
-          let o : x.stream.opaque ≡ asker.asked = x.streams.put.opaque_is in
-          let v : x.stream.vb ≡ asker.dialed.vb = x.streams.put.vb_is in
-          let small : asker.asked < 2 ^ 32 = x.consumer.small in
-          record {
-            opaque = omega arith;
-            vb = omega arith;
-            item = λ c here. change_readable c x.stream.opaque x.stream.vb (all_found ChangeFits x.stream.items x.stream.next c x.streams.put.fits here) (omega arith) (omega arith);
-          }
+  stream_fits few (EndsStand.IsStreaming x state) = kept_fits x.granted_is.over x.stream (streaming_fits few x) x.stream_is
+  stream_fits few (EndsStand.IsHeir x state) = kept_fits x.granted_is.over x.stream (heir_fits few x) x.stream_is
 
-      by : (over : Bool) → served.streams ≡ kept_stream over x.stream → OneFits served.streams
-      by true kept = inl kept
-      by false kept = inr (x.stream, kept, own)
-
-module _ (takes : TakesSnapshots) (w : PlainWorld) (r : Chronicle) (link : PlainLink) (node : PlainNode) (found : row_at link_number (link_number link) w.links ≡ Some link) (buffered : Buffered link.consumer.dialed.buffer) where
+module _ (takes : TakesSnapshots) (stays : StaysSound) (w : PlainWorld) (r : Chronicle) (link : PlainLink) (node : PlainNode) (found : row_at link_number (link_number link) w.links ≡ Some link) (buffered : Buffered link.consumer.dialed.buffer) where
   abbrev buffer : ℕ
   buffer = link.consumer.dialed.buffer
 
@@ -112,7 +128,7 @@ module _ (takes : TakesSnapshots) (w : PlainWorld) (r : Chronicle) (link : Plain
 
   next_turn : (states : States) (x : Turn Pulling (Served × Halt)) → TurnSoFar w r l link node states x → TurnPuts x → Both (after (go_on one_frame x) states)
   next_turn states (More p) g holds =
-      subst (λ q. Both (after (one_frame (pull_of p.served q)) states)) (sym g.1) (turn w r l link node found states p.served g.0 takes, one_turn states p.served g.0 holds)
+      subst (λ q. Both (after (one_frame (pull_of p.served q)) states)) (sym g.1) (turn w r l link node found states p.served g.0 takes stays, one_turn states p.served g.0 holds)
   next_turn states (Stop stopped) g holds = (g, holds)
 
   turns : (k : ℕ) (states : States) (s : Served) → SoFar w r l link node states s → PutHolds s → Both (after (repeated k one_frame (pull_of s none_quiet)) states)
@@ -127,24 +143,9 @@ module _ (takes : TakesSnapshots) (w : PlainWorld) (r : Chronicle) (link : Plain
   left_holds states (More p) holds = holds
   left_holds states (Stop stopped) holds = holds
 
-  module _ (a : Agrees w r) (known : w.nodes (producer_node link) ≡ Some node) where
+  module _ (a : Agrees w r) (read : LinkKnown r r link) (known : w.nodes (producer_node link) ≡ Some node) where
     abbrev first : Served
     first = begun link.server
-
-    same : Relinked w (with_node_at w (producer_node link) (with_states node node.vbs)) w.links
-    same = node_of_same_vbs w (producer_node link) node (with_states node node.vbs) known (λ q. refl) (λ q. refl) refl
-
-    first_so_far : SoFar w r l link node node.vbs first
-    first_so_far = record {
-      lawful = tt;
-      quiet = tt;
-      desk = refl;
-      agrees = (
-        a.0,
-        carries_same idle idle w (pumped w l link node node.vbs first) r a.0 a.1
-            (record { powers = same.powers; vbs = same.vbs; shelves = same.shelves; uuids = refl; linked = ap (λ x. row_put link_number l (record link { down = x }) w.links) (append-nil link.down) ∙ put_same l w.links link found }) (λ k. refl),
-      );
-    }
 
     first_holds : Level link → PutHolds first
     first_holds level = subst (λ b. Holds buffer (room_of link.server) (over stream_len (link.down_heard ++ b)) asked) (sym (append-nil link.down)) (level buffered)
@@ -155,4 +156,4 @@ module _ (takes : TakesSnapshots) (w : PlainWorld) (r : Chronicle) (link : Plain
         let x = after (repeated frames one_frame (pull_of first none_quiet)) node.vbs in
         subst PutEnds
         (sym (ap (λ y. y.1) (after_bind (frames_put frames first) (λ put. Done (pull_result link.up_heard put)) node.vbs) ∙ ap (λ y. pull_result link.up_heard y.1) (after_bind (repeated frames one_frame (pull_of first none_quiet)) pulled node.vbs)))
-        (left_holds x.0 x.1 (turns frames node.vbs first first_so_far (first_holds level)).1)
+        (left_holds x.0 x.1 (turns frames node.vbs first (first_so_far takes stays w r link node found a known read) (first_holds level)).1)

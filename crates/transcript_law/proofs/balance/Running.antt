@@ -1,16 +1,16 @@
 -- behind each line of a script all links are balanced
 use Rattle.std.specs.Prelude.{◌≡◌, ℕ, ◌+◌, ◌++◌, ◌<◌, ◌^◌, List, [], ◌∷◌, if◌then◌else◌}
-use Rattle.transcript_law.proofs.Words.{Bool, true, false, refl, sym, ◌∙◌, subst, ⊎_elim, Option, Some, None, All-head, All-tail, EndReason, ScriptLine, Verb, NodeVerb, LinkVerb, VerbFits, ScriptFits, Told, after, AdminCall, Role, PlainLink, link_number, producer_node, consumer_node, PlainNode, PlainWorld, Outcome, empty_world, with_branches, verb_step, world_step, Chronicle, empty_chronicle, row_at, row_put, over_why, moved_len, stays, take_snapshots, world_of}
+use Rattle.transcript_law.proofs.Words.{Bool, true, false, refl, ap, sym, ◌∙◌, subst, ⊎_elim, Option, Some, None, All-head, All-tail, EndReason, ScriptLine, Verb, NodeVerb, LinkVerb, VerbFits, ScriptFits, Told, after, AdminCall, Role, PlainLink, link_number, producer_node, consumer_node, PlainNode, PlainWorld, Cause, Outcome, after_lines, node_outcome, refusal, with_link, empty_world, with_branches, verb_step, world_step, Chronicle, empty_chronicle, row_at, row_put, over_why, moved_len, stays, take_snapshots, world_of}
 use Rattle.transcript_law.proofs.Words.{VbVerb, on_node, on_link, first_cause, node_step, node_causes, up_at, pump_at, dial_of, DialResult}
 use Rattle.node_core.specs.Dials.{dial_due}
 use Rattle.node_world.specs.{Arms.{empty_node, fail_arm, placed, stop_arm}, Cuts.{own_link}, Dues.{done_step, due_at, due_of, is_counted, with_acknowledged, with_due}, Links.{feeds, left_unless, with_down}, Nodes.{arm_at, chain_line, clock_at, done, flush_line, if_up, replica_at, save_line, tick_line, vb_at}}
-use Rattle.node_world.specs.{Power.{crash_causes, down_lines, dropped, start_at, start_causes}, Turns.{admin_line, promote_causes, promote_step, role_outcome, turn_causes, turn_step}, World.{client_verb_at, cut_outcome, cut_step, down_in, down_outcome, down_step, link_verb_step, node_verb_step, relinked, vb_verb_step}, Worlds.{on_made, with_node_at}}
+use Rattle.node_world.specs.{Power.{crash_causes, down_lines, dropped, start_at, start_causes}, Turns.{admin_line, promote_causes, promote_step, role_outcome, turn_causes, turn_step}, Pumps.{gives_at}, World.{client_verb_at, cut_outcome, link_outcome, cut_step, down_in, down_outcome, down_step, link_verb_step, node_verb_step, pump_outcome, pump_step, relinked, vb_verb_step}, Worlds.{on_made, with_node_at}}
 use Rattle.vb_types.specs.declared.journal.FlushPart.TheVariants as part
 use Rattle.transcript_law.specs.{Balance.{AreBalanced}, Chronicles.{after_group, at_line}, Prefixes.{world_after}}
-use Rattle.transcript_law.proofs.{Runs.{group_agrees, group_serves, row_of, start, start_serves}, invariant.Agreement.{Agrees, IsLink}, invariant.LinkRows.{found_is_link}, invariant.Ranged.{IsRanged, NodeRangedIf, start_ranged}, verbs.NodeLines.{on_link_by}, verbs.Settling.{steady}, verbs.Rows.{Row}}
-use Rattle.transcript_law.proofs.balance.{Downing.{Writing, down_level, due_level, told, writing_of}, Hearing.{dued}, Leaving.{among_on, arm_on, dropped_among, found_among, made_links, node_links, out_among, put_among, refused_on, role_on, same_on, with_broken_among}, Levels.{AllLevel, FlowOn, Level, level_on}, Measures.{acknowledged_is, counted_is}, Opening.{link_level}, Pumping.{pump_holds}, Upping.{up_holds}}
+use Rattle.transcript_law.proofs.{Runs.{Along, along, along_start}, invariant.Agreement.{Agrees, IsLink}, invariant.LinkRows.{found_is_link}, invariant.Ranged.{IsRanged, NodeRangedIf}, verbs.NodeLines.{on_link_by}, verbs.Pumping.{gave_stands}, verbs.Settling.{steady}}
+use Rattle.transcript_law.proofs.balance.{Downing.{Writing, down_level, due_level, told, writing_of}, Giving.{gives_on}, Hearing.{dued}, Leaving.{among_on, arm_on, dropped_among, found_among, made_links, node_links, out_among, put_among, refused_on, role_on, same_on, with_broken_among}, Levels.{AllLevel, FlowOn, Level, level_on}, Measures.{acknowledged_is, counted_is}, Opening.{link_level}, Pumping.{pump_holds}, Upping.{up_holds}}
+use Rattle.transcript_law.proofs.{links.PumpWorlds.{AllKnown, LinkKnown}, noted.Pumped.{pump_known}}
 use Rattle.transcript_law.specs.LawfulAnswers.{IsStill}
-use Rattle.transcript_law.proofs.invariant.{Begun.{ServesOpen}, ClientWorlds.{ConnsAre, start_conns}, Clients.{line_heard}}
 
 -- the consumers of links have opaques
 abbrev SmallAfter : List PlainLink → Type 0
@@ -22,7 +22,23 @@ SmallAfter links = (x : PlainLink) → IsLink x links → x.consumer.asked < 2 ^
 put_level : (w : PlainWorld) (l : ℕ) (link : PlainLink) → AllLevel w → Level link → (x : PlainLink) → IsLink x (row_put link_number l link w.links) → Level x
 put_level w l link all level x i = ⊎_elim (λ same. subst Level (sym same) level) (λ old. all x old) (put_among l link w.links x i)
 
-module _ (w : PlainWorld) (r : Chronicle) (ranged : IsRanged w) (calm : IsStill r) (a : Agrees w r) (all : AllLevel w) where
+-- frames that are put where all agrees, and what is noted of the link is as the lines tell
+pumped_level : (w : PlainWorld) (r : Chronicle) (l frames : ℕ) → Agrees w r → ((link : PlainLink) → row_at link_number l w.links ≡ Some link → LinkKnown r r link) → AllLevel w → AllLevel (on_link w l producer_node (pump_at frames)).0
+pumped_level w r l frames a read all = by (row_at link_number l w.links) refl
+  where
+    at : (link : PlainLink) → row_at link_number l w.links ≡ Some link → (o : Option PlainNode) → w.nodes (producer_node link) ≡ o
+        → AllLevel (with_link link (node_outcome w (producer_node link) (Some link, refusal Cause.UnknownNode) o (pump_at frames link))).0
+    at link found None none = put_level w (link_number link) link all (all link (found_is_link l w.links link found).0)
+    at link found (Some node) known =
+        let p = found_is_link l w.links link found in
+        put_level w (link_number link) _ all
+        (λ b. pump_holds take_snapshots stays w r link node (ap (λ k. row_at link_number k w.links) p.1 ∙ found) b a (read link found) known frames (all link p.0))
+
+    by : (o : Option PlainLink) → row_at link_number l w.links ≡ o → AllLevel (link_outcome w l producer_node (pump_at frames) o).0
+    by None none = all
+    by (Some link) found = at link found (w.nodes (producer_node link)) refl
+
+module _ (w : PlainWorld) (r : Chronicle) (ranged : IsRanged w) (calm : IsStill r) (known : AllKnown w r) (a : Agrees w r) (all : AllLevel w) where
   own_level : (link : PlainLink) → row_at link_number (link_number link) w.links ≡ Some link → Level link
   own_level link found = all link (found_is_link (link_number link) w.links link found).0
 
@@ -31,12 +47,24 @@ module _ (w : PlainWorld) (r : Chronicle) (ranged : IsRanged w) (calm : IsStill 
 
   up_level : (l wanted : ℕ) → AllLevel (on_link w l producer_node (up_at wanted)).0
   up_level l wanted = on_link_by (λ came. AllLevel came.0) w l producer_node (up_at wanted) all away
-      (λ link node found known. put_level w (link_number link) _ all
-      (λ b. up_holds stays steady w r (moved_len wanted link.up) link found b node known (subst (NodeRangedIf (producer_node link)) known (ranged (producer_node link))) calm.0 a (own_level link found)))
+      (λ link node found there. put_level w (link_number link) _ all
+      (λ b. up_holds stays steady w r (moved_len wanted link.up) link found (known link (found_is_link (link_number link) w.links link found).0).noted.dialed b node there (subst (NodeRangedIf (producer_node link)) there (ranged (producer_node link))) calm.0 a (own_level link found)))
 
-  pump_level : (l frames : ℕ) → AllLevel (on_link w l producer_node (pump_at frames)).0
-  pump_level l frames = on_link_by (λ came. AllLevel came.0) w l producer_node (pump_at frames) all away
-      (λ link node found known. put_level w (link_number link) _ all (λ b. pump_holds take_snapshots w r link node found b a known frames (own_level link found)))
+  pump_level : (l frames : ℕ) → AllLevel (pump_step w l frames).0
+  pump_level l frames = by (row_at link_number l w.links) refl
+    where
+      gave_level : (link : PlainLink) → row_at link_number l w.links ≡ Some link → (o : Option PlainNode) → AllLevel (gives_at frames link w o).0
+      gave_level link found None = all
+      gave_level link found (Some node) =
+          let own : row_at link_number (link_number link) w.links ≡ Some link = ap (λ k. row_at link_number k w.links) (found_is_link l w.links link found).1 ∙ found in
+          level_on w (gives_at frames link w (Some node)).0 (gives_on frames link w node own) all
+
+      by : (o : Option PlainLink) → row_at link_number l w.links ≡ o → AllLevel (pump_outcome w l frames o).0
+      by None e = all
+      by (Some link) found =
+          let o : Option PlainNode = w.nodes (producer_node link) in let gave = gives_at frames link w o in
+          let stands = gave_stands take_snapshots stays steady w r l frames a ranged calm.0 known link found in
+          pumped_level gave.0 (after_lines r gave.1.events) l frames stands.agrees stands.known (gave_level link found o)
 
   -- the links whose consumers have an opaque are balanced
   abbrev SmallLevel : List PlainLink → Type 0
@@ -160,7 +188,7 @@ module _ (w : PlainWorld) (r : Chronicle) (ranged : IsRanged w) (calm : IsStill 
 
   line_goes : (line : ℕ) (what : Verb) → VerbFits what → SmallAfter (verb_step w line what).0.links → Goes (verb_step w line what)
   line_goes line (Verb.Node n) fits small = flows (node_step w n) (refused_on w (first_cause (node_causes w n)) (with_node_at w n empty_node, done []) (same_on w.links w.links refl))
-  line_goes line (Verb.Link l m n v buffer) fits small = link_level w line l m n v buffer (fits.2, fits.3, fits.4) all
+  line_goes line (Verb.Link l m n v buffer takeover) fits small = link_level w line l m n v buffer takeover (fits.2, fits.3, fits.4) all
   line_goes line (Verb.AtNode n what) fits small = node_goes n what
   line_goes line (Verb.AtVb n v what) fits small = vb_goes n v what
   line_goes line (Verb.AtClient n c what) fits small = flows (on_node w n (client_verb_at n line c what)) (on_one n (if_up (client_verb_at n line c what)))
@@ -172,17 +200,16 @@ module _ (w : PlainWorld) (r : Chronicle) (ranged : IsRanged w) (calm : IsStill 
 small_after : (w : PlainWorld) (r : Chronicle) → Agrees w r → SmallAfter w.links
 small_after w r (c, a) x i = (writing_of w r c x (a.links x i)).opaque
 
-levels_from : (w : PlainWorld) (r : Chronicle) (script : List ScriptLine) → ScriptFits script → IsRanged w → ConnsAre w r.conn_at → ServesOpen r.last r.conn_at → IsStill r → Agrees w r → AllLevel w → AllLevel (world_after w script)
+levels_from : (w : PlainWorld) (r : Chronicle) (script : List ScriptLine) → ScriptFits script → Along w r → AllLevel w → AllLevel (world_after w script)
 unfolding world_step
-levels_from w r [] fits ranged are serves calm a all = all
-levels_from w r (line ∷ lines) fits ranged are serves calm a all =
-    let fit = All-head (λ (x : ScriptLine). VerbFits x.verb) line lines fits in
+levels_from w r [] fits x all = all
+levels_from w r (line ∷ lines) fits x all =
+    let fit = All-head (λ (y : ScriptLine). VerbFits y.verb) line lines fits in
     let outcome = verb_step w line.line line.verb in
-    let row : Row w line.verb outcome = row_of w line.line line.verb in
     let r' : Chronicle = after_group (at_line r line.line) line.verb outcome.1.events outcome.1.answer in
-    let now = group_agrees w r line.line line.verb fit ranged are serves calm a in
-    levels_from (with_branches outcome.1.events outcome.0) r' lines (All-tail (λ (x : ScriptLine). VerbFits x.verb) line lines fits) (row.ranged fit ranged) (line_heard r.conn_at w line.line are line.verb fit).1 (group_serves r line.line line.verb outcome.1.events outcome.1.answer) (tt, refl) now
-    (line_goes w r ranged calm a all line.line line.verb fit (small_after (with_branches outcome.1.events outcome.0) r' now))
+    let now = along w r line fit x in
+    levels_from (with_branches outcome.1.events outcome.0) r' lines (All-tail (λ (y : ScriptLine). VerbFits y.verb) line lines fits) now
+    (line_goes w r x.ranged x.calm (pump_known w r x.handed) x.agrees all line.line line.verb fit (small_after (with_branches outcome.1.events outcome.0) r' now.agrees))
 
 balanced : (w : PlainWorld) → AllLevel w → AreBalanced w
 balanced w all l link found some fits =
@@ -191,4 +218,4 @@ balanced w all l link found some fits =
 
 -- behind all of it
 pub scripts_balance : (script : List ScriptLine) → ScriptFits script → AreBalanced (world_of script)
-scripts_balance script fits = balanced (world_of script) (levels_from empty_world empty_chronicle script fits start_ranged start_conns start_serves (tt, refl) start (λ x i. absurd i))
+scripts_balance script fits = balanced (world_of script) (levels_from empty_world empty_chronicle script fits along_start (λ x i. absurd i))

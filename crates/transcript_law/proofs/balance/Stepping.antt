@@ -3,7 +3,7 @@ use Rattle.std.specs.Prelude.{◌≡◌, ℕ, ◌<◌, ◌^◌, ◌==◌, ◌++�
 use Rattle.std.specs.List.{sum_by}
 use Rattle.std.proofs.lemmas.Bool.Decides.{nat_tests}
 use Rattle.std.proofs.lemmas.List.Sums.{sum_by-cons}
-use Rattle.transcript_law.proofs.Words.{zero, suc, true, false, drop, drop-nil, refl, ap, sym, ◌∙◌, inl, inr, ⊎_elim, arith, Option, All, All-head, All-tail, Frame, DcpMsg, dcp_frame, StreamAsk, Member, Plain, PlainProducer, PlainConsumer, Granted, open_request, sync_request, name_request, codes, decimal, member_name}
+use Rattle.transcript_law.proofs.Words.{zero, suc, true, false, drop, drop-nil, refl, ap, sym, ◌∙◌, inl, inr, ⊎_elim, arith, Option, All, All-head, All-tail, Frame, DcpMsg, dcp_frame, StreamAsk, Member, Plain, PlainProducer, PlainConsumer, Granted, Role, Handshake, open_request, sync_request, name_request, codes, decimal, member_name}
 use Rattle.mcbp_dcp.specs.declared.message.DcpMsg.TheVariants as msg
 use Rattle.dcp_consumer.specs.declared.handshake.Dialed.{Dialed}
 use Rattle.dcp_producer.specs.Producers.{is_open}
@@ -11,7 +11,7 @@ use Rattle.transcript_law.specs.Balance.{acknowledged_by}
 use Rattle.transcript_law.proofs.balance.Answering.{window_behind, open_left, control_left, ask_left, seqno_left, bytes_left, size_left}
 use Rattle.transcript_law.proofs.balance.Levels.{Has, Holds, WindowIs, size_frame}
 use Rattle.transcript_law.proofs.balance.{Rooms.{Room, room_acked, room_of, room_sized}, Writing.{bytes_names}}
-use Rattle.transcript_law.proofs.invariant.Agreement.{Wants, EndsStand, IsAcknowledgement}
+use Rattle.transcript_law.proofs.invariant.Agreement.{Wants, EndsStand, IsUpward, state_answer}
 use Rattle.transcript_law.proofs.links.Firsts.{asks_from, buffer_first, firsts, name_first, open_first, request_frames, set_after, set_by, sync_first}
 use Rattle.transcript_law.proofs.links.Requests.{all_set}
 use Rattle.dcp_producer.specs.declared.desk.Handshake.TheVariants as shaken
@@ -104,14 +104,29 @@ requests_none o d ask =
     let g = ask_none ask o d.vb in
     omega arith
 
--- an acknowledgement is no request for the size
-acks_other : (wrote : List ℕ) (o v buffer : ℕ) (frames : List Frame) → All (IsAcknowledgement wrote o v) frames → Has (size_frame buffer) frames → ⊥
-acks_other wrote o v buffer [] acks has = has
-acks_other wrote o v buffer (f ∷ fs) acks has =
-    ⊎_elim
-    (λ same. ⊎_elim (λ seqno. seqno_other seqno.0 o v buffer (sym seqno.1 ∙ same)) (λ bytes. bytes_other bytes.0 o 0 buffer (sym bytes.1 ∙ same)) (All-head (IsAcknowledgement wrote o v) f fs acks))
-    (λ later. acks_other wrote o v buffer fs (All-tail (IsAcknowledgement wrote o v) f fs acks) later)
-    has
+-- nor is the answer to a state, which leaves the window
+state_other : (o buffer : ℕ) → state_answer o ≡ size_frame buffer → ⊥
+unfolding dcp_frame
+state_other o buffer e = let z : 0x5b ≡ 0x5e = ap (λ f. f.opcode) e in omega (arith, z)
+
+pub state_none : (o : ℕ) → acknowledged_by (state_answer o) ≡ 0
+unfolding dcp_frame
+state_none o = refl
+
+state_left : (o : ℕ) (h : Handshake) (w : Room) → window_behind (state_answer o) h w ≡ w
+unfolding dcp_frame
+state_left o h w = refl
+
+-- what a consumer with a stream sends is no request for the size
+upward_other : (wrote : List ℕ) (o v buffer : ℕ) (f : Frame) → IsUpward wrote o v f → f ≡ size_frame buffer → ⊥
+upward_other wrote o v buffer f (inl (inl (seq, is, range, one))) same = seqno_other seq o v buffer (sym is ∙ same)
+upward_other wrote o v buffer f (inl (inr (bytes, is, range))) same = bytes_other bytes o 0 buffer (sym is ∙ same)
+upward_other wrote o v buffer f (inr is) same = state_other o buffer (sym is ∙ same)
+
+ups_other : (wrote : List ℕ) (o v buffer : ℕ) (frames : List Frame) → All (IsUpward wrote o v) frames → Has (size_frame buffer) frames → ⊥
+ups_other wrote o v buffer [] ups has = has
+ups_other wrote o v buffer (f ∷ fs) ups has =
+    ⊎_elim (λ same. upward_other wrote o v buffer f (All-head (IsUpward wrote o v) f fs ups) same) (λ later. ups_other wrote o v buffer fs (All-tail (IsUpward wrote o v) f fs ups) later) has
 
 -- ---- a frame
 
@@ -156,24 +171,28 @@ module _ (served : PlainProducer) (asker : PlainConsumer) (counted : ℕ) (f : F
     request_step (suc (suc (suc (suc zero)))) h e = left (msg.StreamRequest ask) asker.asked d.vb (the_first e) (ask_left served.handshake (room_of served) ask asker.asked d.vb) (ask_none ask asker.asked d.vb) (asks_other ask asker.asked d.vb d.buffer)
     request_step (suc (suc (suc (suc (suc k))))) h e = no_frame (e ∙ drop-nil {A = Frame} k)
 
-  ack_step : (wrote : List ℕ) → is_open served.handshake ≡ true → IsAcknowledgement wrote asker.asked d.vb f → (Has (size_frame d.buffer) (f ∷ rest) → ⊥) → Goal
-  ack_step wrote opens (inl (seq, is, range, one)) none =
+  up_step : (wrote : List ℕ) → is_open served.handshake ≡ true → IsUpward wrote asker.asked d.vb f → (Has (size_frame d.buffer) (f ∷ rest) → ⊥) → Goal
+  up_step wrote opens (inr is) none =
+      step_left d.buffer counted f rest (room_of served) w' holds (ap (λ g. window_behind g served.handshake (room_of served)) is ∙ state_left asker.asked served.handshake (room_of served))
+      (ap acknowledged_by is ∙ state_none asker.asked) (λ e. none (inl e))
+  up_step wrote opens (inl (inl (seq, is, range, one))) none =
       step_left d.buffer counted f rest (room_of served) w' holds (ap (λ g. window_behind g served.handshake (room_of served)) is ∙ seqno_left served.handshake (room_of served) seq asker.asked d.vb)
       (ap acknowledged_by is ∙ seqno_none seq asker.asked d.vb) (λ e. none (inl e))
-  ack_step wrote opens (inr (bytes, is, range)) none =
+  up_step wrote opens (inl (inr (bytes, is, range))) none =
       step_acked d.buffer counted f rest (room_of served) w' holds bytes
       (ap (λ g. window_behind g served.handshake (room_of served)) is ∙ bytes_left served.handshake (room_of served) bytes asker.asked 0 range ∙ ap (λ b. if b then room_acked bytes (room_of served) else (room_of served)) opens)
       (ap acknowledged_by is ∙ bytes_names asker.asked bytes range) none
 
-module _ {fv : Wants} {kn : Member} {pv : Option Plain} {leader : Member} {g : Option Granted} {point : Option ℕ} {served : PlainProducer} {asker : PlainConsumer} {said : List Frame} where
+module _ {fv : Wants} {kn : Member} {pv : Option Plain} {leader : Member} {g : Option Granted} {last : Option Role} {point : Option ℕ} {served : PlainProducer} {asker : PlainConsumer} {said : List Frame} where
   -- a producer with a stream has a window of the size that was asked for
-  pub sized_if : {asked : List Frame} → EndsStand fv kn pv leader g point served asker asked said → (served.streams ≡ [] → ⊥) → WindowIs asker.dialed.buffer (room_of served) asked → (room_of served).size ≡ asker.dialed.buffer
+  pub sized_if : {asked : List Frame} → EndsStand fv kn pv leader g last point served asker asked said → (served.streams ≡ [] → ⊥) → WindowIs asker.dialed.buffer (room_of served) asked → (room_of served).size ≡ asker.dialed.buffer
   sized_if (EndsStand.IsAsking ask none x) some is = absurd (some x.no_stream)
   sized_if (EndsStand.IsRefusedYet none x) some is = absurd (some x.no_stream)
-  sized_if {asked} (EndsStand.IsStreaming x) some is = ⊎_elim (λ s. s) (λ y. absurd (acks_other x.granted_is.wrote asker.asked asker.dialed.vb asker.dialed.buffer asked x.acks y.1)) is
+  sized_if {asked} (EndsStand.IsStreaming x state) some is = ⊎_elim (λ s. s) (λ y. absurd (ups_other x.granted_is.wrote asker.asked asker.dialed.vb asker.dialed.buffer asked x.acks.each y.1)) is
+  sized_if {asked} (EndsStand.IsHeir x state) some is = ⊎_elim (λ s. s) (λ y. absurd (ups_other x.granted_is.wrote asker.asked asker.dialed.vb asker.dialed.buffer asked x.acks.each y.1)) is
 
   pub stands_step : (counted : ℕ) (f : Frame) (rest : List Frame) → 0 < asker.dialed.buffer → asker.dialed.buffer < 2 ^ 32 → Holds asker.dialed.buffer (room_of served) counted (f ∷ rest)
-      → EndsStand fv kn pv leader g point served asker (f ∷ rest) said → Holds asker.dialed.buffer (window_behind f served.handshake (room_of served)) counted rest
+      → EndsStand fv kn pv leader g last point served asker (f ∷ rest) said → Holds asker.dialed.buffer (window_behind f served.handshake (room_of served)) counted rest
   stands_step counted f rest buffered low holds (EndsStand.IsAsking ask none x) =
       let some : (asker.dialed.buffer == 0) ≡ false = grind (arith, nat_tests, buffered) in
       request_step served asker counted f rest buffered low holds ask (λ h. ap is_open h ∙ opened_next asker.dialed some) x.answered x.server
@@ -182,7 +201,11 @@ module _ {fv : Wants} {kn : Member} {pv : Option Plain} {leader : Member} {g : O
     where
       no_frames : {A : Type 0} → f ∷ rest ≡ [] → A
       no_frames e = cc
-  stands_step counted f rest buffered low holds (EndsStand.IsStreaming x) =
+  stands_step counted f rest buffered low holds (EndsStand.IsStreaming x state) =
       let d : Dialed = asker.dialed in
-      ack_step served asker counted f rest buffered low holds x.granted_is.wrote (ap is_open (x.server ∙ all_set d)) (All-head (IsAcknowledgement x.granted_is.wrote asker.asked d.vb) f rest x.acks)
-      (λ has. acks_other x.granted_is.wrote asker.asked d.vb d.buffer (f ∷ rest) x.acks has)
+      up_step served asker counted f rest buffered low holds x.granted_is.wrote (ap is_open (x.server ∙ all_set d)) (All-head (IsUpward x.granted_is.wrote asker.asked d.vb) f rest x.acks.each)
+      (λ has. ups_other x.granted_is.wrote asker.asked d.vb d.buffer (f ∷ rest) x.acks.each has)
+  stands_step counted f rest buffered low holds (EndsStand.IsHeir x state) =
+      let d : Dialed = asker.dialed in
+      up_step served asker counted f rest buffered low holds x.granted_is.wrote (ap is_open (x.server ∙ all_set d)) (All-head (IsUpward x.granted_is.wrote asker.asked d.vb) f rest x.acks.each)
+      (λ has. ups_other x.granted_is.wrote asker.asked d.vb d.buffer (f ∷ rest) x.acks.each has)

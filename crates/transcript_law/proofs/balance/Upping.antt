@@ -10,8 +10,8 @@ use Rattle.transcript_law.specs.Balance.{stream_len}
 use Rattle.transcript_law.proofs.balance.{Answering.{Answers, frame_becomes}, Levels.{Buffered, Holds, Level}, Measures.{frames_back, over, over_more, over_one, spelled}, Stepping.{stands_step}}
 use Rattle.transcript_law.proofs.invariant.{Agreement.{Agrees, AgreesAt, EndsStand, LinkAgrees, Talk, consumer_seat, idle, producer_seat, spoken, vb_of, wants_of}, Carried.{one_here, one_idle, talk_same, told_of_same}, Carrying.{Relinked}, OneLink.{carries_link, mine}, Ranged.{NodeRanged}, Seats.{seat}}
 use Rattle.transcript_law.specs.LawfulAnswers.{AllDurable}
-use Rattle.transcript_law.proofs.links.{Counting.{ack_next}, Talks.{come, read_link, read_talk}, Unread.{answering}, Upward.{Now, asking_next, came_of, frame_came, link_now, served_at, vb_here, world_at}}
-use Rattle.transcript_law.proofs.{lines.Telling.{none_before}, verbs.NodeLines.{node_of_same_vbs}, verbs.Settling.{Steady}}
+use Rattle.transcript_law.proofs.links.{Counting.{heir_next, upward_next}, Talks.{come, read_link, read_talk}, Unread.{answering}, Upward.{Now, asking_next, came_of, frame_came, link_now, served_at, vb_here, world_at}}
+use Rattle.transcript_law.proofs.{lines.Takeovers.{lines_takeovers}, lines.Telling.{none_before}, verbs.NodeLines.{node_of_same_vbs}, verbs.Settling.{Steady}}
 
 -- what is heard and what is to come are the frames behind those that are about to be taken
 module _ (heard moving : List ℕ) (busy behind : List Frame) where
@@ -22,7 +22,7 @@ module _ (heard moving : List ℕ) (busy behind : List Frame) where
       All-behind [] all = all
       All-behind (f ∷ fs) all = All-behind fs (All-tail Readable f (fs ++ behind) all)
 
-module _ (stays : StaysSound) (steady : Steady) (w : PlainWorld) (r : Chronicle) (n : ℕ) (link : PlainLink) (found : row_at link_number (link_number link) w.links ≡ Some link) (buffered : Buffered link.consumer.dialed.buffer) where
+module _ (stays : StaysSound) (steady : Steady) (w : PlainWorld) (r : Chronicle) (n : ℕ) (link : PlainLink) (found : row_at link_number (link_number link) w.links ≡ Some link) (noted : (r.takeover_of (link_number link)).dialed ≡ link.consumer.dialed.takeover) (buffered : Buffered link.consumer.dialed.buffer) where
   abbrev buffer : ℕ
   buffer = link.consumer.dialed.buffer
 
@@ -92,7 +92,7 @@ module _ (stays : StaysSound) (steady : Steady) (w : PlainWorld) (r : Chronicle)
         let becomes = frame_becomes f small x.0.vbs (log_short (f ∷ fs) x now f.vb_or_status) before in
         let step = stands_step (over stream_len (down_at x.1.out)) f (fs ++ later) buffered.some (let b = buffered.fits in omega arith) holds
         (subst (λ asked. EndsStand (wants_of ups.follower) (now.cluster.nodes (consumer_seat link)) (vb_of (world_at w r n link found x) (producer_node (served_at w r n link found x.1)) link.consumer.dialed.vb)
-        (now.cluster.nodes (producer_seat (served_at w r n link found x.1))) ((after_lines r x.1.events).stream_of (StreamName.Link (link_number link)) link.consumer.dialed.vb) ((after_lines r x.1.events).point_of (link_number link)) x.1.peer.producer link.consumer asked (spoken ups.talk.said))
+        (now.cluster.nodes (producer_seat (served_at w r n link found x.1))) ((after_lines r x.1.events).stream_of (StreamName.Link (link_number link)) link.consumer.dialed.vb) ((after_lines r x.1.events).stated_of (link_number link)) ((after_lines r x.1.events).point_of (link_number link)) x.1.peer.producer link.consumer asked (spoken ups.talk.said))
         (asked_are (f ∷ fs) x now) ups.talk.stands) in
         subst (λ k. Holds buffer (room_of came.1.end) k (fs ++ later)) (sym (same_down came.1.out becomes.1))
         (subst (λ v. Holds buffer v (over stream_len (down_at x.1.out)) (fs ++ later)) (sym becomes.0) step)
@@ -108,11 +108,12 @@ module _ (stays : StaysSound) (steady : Steady) (w : PlainWorld) (r : Chronicle)
         no_frames e = cc
 
         by : EndsStand (wants_of ups.follower) (now.cluster.nodes (consumer_seat link)) (vb_of (world_at w r n link found x) (producer_node (served_at w r n link found x.1)) link.consumer.dialed.vb)
-            (now.cluster.nodes (producer_seat (served_at w r n link found x.1))) ((after_lines r x.1.events).stream_of (StreamName.Link (link_number link)) link.consumer.dialed.vb) ((after_lines r x.1.events).point_of (link_number link)) x.1.peer.producer link.consumer ups.talk.asked (spoken ups.talk.said)
+            (now.cluster.nodes (producer_seat (served_at w r n link found x.1))) ((after_lines r x.1.events).stream_of (StreamName.Link (link_number link)) link.consumer.dialed.vb) ((after_lines r x.1.events).stated_of (link_number link)) ((after_lines r x.1.events).point_of (link_number link)) x.1.peer.producer link.consumer ups.talk.asked (spoken ups.talk.said)
             → Now w r n link found fs (frame_up f x)
-        by (EndsStand.IsAsking ask none t) = asking_next w r n link found f fs x now ask none t
+        by (EndsStand.IsAsking ask none t) = asking_next w r n link found f fs x now ask none (ap (λ k. (k (link_number link)).dialed) (lines_takeovers r x.1.events) ∙ noted) t
         by (EndsStand.IsRefusedYet none t) = no_frames (sym t.asked_is ∙ ups.talk.ups.joined)
-        by (EndsStand.IsStreaming t) = ack_next stays steady w r n link found f fs x now t
+        by (EndsStand.IsStreaming t said) = upward_next stays steady w r n link found f fs x now t said
+        by (EndsStand.IsHeir t said) = heir_next stays steady w r n link found f fs x now t said
 
   -- the frames that came whole, one after the other
   pub all_up : (fs : List Frame) (x : PlainNode × PeerResult) → Now w r n link found fs x → UpHolds fs x → (let y = frames_up fs x in Now w r n link found [] y × UpHolds [] y)
@@ -143,8 +144,8 @@ module _ (stays : StaysSound) (steady : Steady) (w : PlainWorld) (r : Chronicle)
           follows = la.follows;
           acks = la.acks;
           dial = la.dial;
-          talk = talk_same refl (same_vbs (producer_node link) link.consumer.dialed.vb) refl refl refl
-              (subst (λ x. Talk la.follower (c.nodes (consumer_seat link)) (vb_of w (producer_node link) link.consumer.dialed.vb) (c.nodes (producer_seat link)) (r.stream_of (StreamName.Link l) link.consumer.dialed.vb) (r.point_of l)
+          talk = talk_same refl (same_vbs (producer_node link) link.consumer.dialed.vb) refl refl refl refl
+              (subst (λ x. Talk la.follower (c.nodes (consumer_seat link)) (vb_of w (producer_node link) link.consumer.dialed.vb) (c.nodes (producer_seat link)) (r.stream_of (StreamName.Link l) link.consumer.dialed.vb) (r.stated_of l) (r.point_of l)
               (record (read_link link n (left_of bytes)) { down = x }) (frames_in bytes) []) (sym (append-nil link.down)) (read_talk link n la.talk));
         } in record {
           cluster = c;

@@ -1,13 +1,16 @@
 -- what a consumer writes, and how many bytes it acknowledges with it
-use Rattle.std.proofs.Common.{◌≡◌, ℕ, ◌+◌, ◌<◌, List, [], ◌∷◌, ◌++◌, refl, sym, ap, ◌∙◌, subst, arith, inl, inr, ◌⊎◌, drop, length, None, Bool, true, false}
+use Rattle.std.proofs.Common.{suc, zero, ◌≡◌, ℕ, ◌+◌, ◌<◌, List, [], ◌∷◌, ◌++◌, refl, sym, ap, ◌∙◌, subst, arith, inl, inr, ◌⊎◌, drop, length, None, Bool, true, false}
 use Rattle.std.specs.Prelude.{◌^◌, min, if◌then◌else◌}
 use Rattle.std.specs.List.{All, filter_map, sum_by}
-use Rattle.std.proofs.lemmas.Nat.{from_be_bytes-to_be_bytes_4}
+use lib.ListN.{get_or}
+use Rattle.std.proofs.lemmas.Nat.{be_bytes_4, from_be_bytes-to_be_bytes_4}
+use Rattle.std.specs.Int.{w16, w32, w64, from_be_bytes, to_be_bytes}
 use Rattle.std.proofs.lemmas.List.Elements.{All-nil, All-cons, All-head, All-tail}
 use Rattle.std.proofs.lemmas.List.Sums.{sum_by-cons}
 use Rattle.mcbp_frame.specs.declared.frame.Frame.{Frame}
 use Rattle.mcbp_frame.specs.Cutting.{frames_in, left_of}
-use Rattle.mcbp_frame.specs.Spelling.{spelling, Readable}
+use Rattle.mcbp_frame.specs.Frames.{body_size}
+use Rattle.mcbp_frame.specs.Spelling.{lengths, spelling, Readable}
 use Rattle.mcbp_frame.proofs.Cases.{length-spelling}
 use Rattle.mcbp_dcp.specs.declared.message.DcpMsg.TheVariants as msg
 use Rattle.dcp_consumer.specs.declared.handshake.Dialed.{Dialed}
@@ -21,12 +24,39 @@ use Rattle.dcp_consumer.specs.Machine.{over_why}
 use Rattle.dcp_consumer.specs.Noops.{noop_answered}
 use Rattle.dcp_consumer.specs.States.{state_answered}
 use Rattle.mcbp_dcp.specs.declared.shape.TheConstants.{SUCCESS}
-use Rattle.node_core.specs.Conduct.{Writes, Asks, Acknowledges, AcknowledgesBytes, AnswersNoop, AnswersState, AnswersNoops, AreNoopsOf, MayWrite, asks_in, writes_past, Dues, CallsAs, AnyOther, behind, bytes_written, noop_written, SomeCounts, OwesBytes, Delivers, begins, said}
+use Rattle.node_core.specs.Conduct.{Writes, Asks, Acknowledges, AcknowledgesBytes, AnswersNoop, AnswersState, AnswersNoops, AreNoopsOf, asks_in, writes_past, Dues, CallsAs, AnyOther, behind, bytes_written, noop_written, SomeCounts, OwesBytes, Delivers, begins, said}
 use Rattle.node_core.specs.Dials.{PlainDial, DialResult, untold, dial_bytes}
 use Rattle.node_core.proofs.Deliveries.{bytes_acknowledge}
 use Rattle.transcript_law.specs.Balance.{acknowledged_by}
 use Rattle.transcript_law.proofs.balance.Measures.{spelled}
 use Rattle.transcript_law.proofs.links.Unread.{front_readable}
+
+-- a number as four bytes of it are read back
+abbrev as_read : ℕ → ℕ
+as_read n = from_be_bytes w32 (to_be_bytes w32 n)
+
+small_read : (n : ℕ) → as_read n < 2 ^ 32
+small_read n = omega arith
+
+same_bytes : (n : ℕ) → to_be_bytes w32 (as_read n) ≡ to_be_bytes w32 n
+same_bytes n = be_bytes_4 (to_be_bytes w32 n) (as_read n) refl (each n) refl
+  where
+    each : (n i : ℕ) → get_or (to_be_bytes w32 n) i 0 < 256
+    each n zero = omega arith
+    each n (suc zero) = omega arith
+    each n (suc (suc zero)) = omega arith
+    each n (suc (suc (suc zero))) = omega arith
+    each n (suc (suc (suc (suc i)))) = omega arith
+
+-- an answer to a state is read so, whatever its opaque is
+abbrev state_with : List ℕ → List ℕ
+state_with bytes =
+    let f : Frame = dcp_frame (msg.StateAnswer SUCCESS) 0 0 in
+    (f.magic ∷ f.opcode ∷ [] ++ lengths f ++ length f.extras ∷ f.datatype ∷ [] ++ to_be_bytes w16 f.vb_or_status ++ to_be_bytes w32 (body_size f) ++ bytes ++ to_be_bytes w64 f.cas) ++ f.framing ++ f.extras ++ f.key ++ f.value
+
+state_spelled : (opaque : ℕ) → state_answered opaque ≡ spelling (dcp_frame (msg.StateAnswer SUCCESS) (as_read opaque) 0)
+unfolding dcp_frame spelling
+state_spelled opaque = ap state_with (sym (same_bytes opaque))
 
 -- the frames of what was written
 abbrev pub written : ℕ → ℕ → List Writes → List Frame
@@ -35,7 +65,7 @@ written vb asked (Asks ask ∷ more) = dcp_frame (msg.StreamRequest ask) (asked 
 written vb asked (Acknowledges seq ∷ more) = dcp_frame (msg.SeqnoAcknowledged seq) asked vb ∷ written vb asked more
 written vb asked (AcknowledgesBytes bytes ∷ more) = dcp_frame (msg.BufferAcknowledgement bytes) asked 0 ∷ written vb asked more
 written vb asked (AnswersNoop opaque ∷ more) = dcp_frame (msg.NoopAnswer SUCCESS) opaque 0 ∷ written vb asked more
-written vb asked (AnswersState opaque ∷ more) = dcp_frame (msg.StateAnswer SUCCESS) opaque 0 ∷ written vb asked more
+written vb asked (AnswersState opaque ∷ more) = dcp_frame (msg.StateAnswer SUCCESS) (as_read opaque) 0 ∷ written vb asked more
 
 pub written_is : (vb asked : ℕ) (more : List Writes) → writes_past vb asked more ≡ spelled (written vb asked more)
 written_is vb asked [] = refl
@@ -43,7 +73,7 @@ written_is vb asked (Asks ask ∷ more) = ap (λ l. spelling (dcp_frame (msg.Str
 written_is vb asked (Acknowledges seq ∷ more) = ap (λ l. spelling (dcp_frame (msg.SeqnoAcknowledged seq) asked vb) ++ l) (written_is vb asked more)
 written_is vb asked (AcknowledgesBytes bytes ∷ more) = ap (λ l. spelling (dcp_frame (msg.BufferAcknowledgement bytes) asked 0) ++ l) (written_is vb asked more)
 written_is vb asked (AnswersNoop opaque ∷ more) = ap (λ l. noop_answered opaque ++ l) (written_is vb asked more)
-written_is vb asked (AnswersState opaque ∷ more) = ap (λ l. state_answered opaque ++ l) (written_is vb asked more)
+written_is vb asked (AnswersState opaque ∷ more) = λ i. state_spelled opaque i ++ written_is vb asked more i
 
 module _ (vb : ℕ) (few : vb < 2 ^ 16) where
   pub ask_readable : (o : ℕ) (ask : StreamAsk) → o < 2 ^ 32 → Readable (dcp_frame (msg.StreamRequest ask) o vb)
@@ -66,31 +96,23 @@ noop_readable o low = search arith
 abbrev pub Opaques : List ℕ → Type 0
 Opaques ns = All (λ n. n < 2 ^ 32) ns
 
--- what is written on a link that follows alone answers no state
-abbrev pub Stateless : Writes → Type 0
-Stateless (AnswersState opaque) = ⊥
-Stateless other = Unit {0}
+state_readable : (o : ℕ) → o < 2 ^ 32 → Readable (dcp_frame (msg.StateAnswer SUCCESS) o 0)
+unfolding dcp_frame
+state_readable o low = search arith
 
-stateless : (d : Dialed) → d.takeover ≡ false → (w : Writes) → MayWrite d w → Stateless w
-stateless d alone (AnswersState opaque) takes = let never : true ≡ false = sym takes ∙ alone in cc
-stateless d alone other may = tt
-
-all_stateless : (d : Dialed) → d.takeover ≡ false → (more : List Writes) → All (MayWrite d) more → All Stateless more
-all_stateless d alone [] all = All-nil Stateless
-all_stateless d alone (w ∷ more) all = All-cons Stateless w more (stateless d alone w (All-head (MayWrite d) w more all)) (all_stateless d alone more (All-tail (MayWrite d) w more all))
-
-pub written_readable : (vb asked : ℕ) (more : List Writes) → vb < 2 ^ 16 → asked + asks_in more < 2 ^ 32 → Opaques (filter_map noop_written more) → All Stateless more → All Readable (written vb asked more)
-written_readable vb asked [] few low noops none = All-nil Readable
-written_readable vb asked (Asks ask ∷ more) few low noops none =
-    All-cons Readable (dcp_frame (msg.StreamRequest ask) (asked + 1) vb) (written vb (asked + 1) more) (ask_readable vb few (asked + 1) ask (omega arith)) (written_readable vb (asked + 1) more few (omega arith) noops (All-tail Stateless (Asks ask) more none))
-written_readable vb asked (Acknowledges seq ∷ more) few low noops none =
-    All-cons Readable (dcp_frame (msg.SeqnoAcknowledged seq) asked vb) (written vb asked more) (seqno_readable vb few asked seq (omega arith)) (written_readable vb asked more few low noops (All-tail Stateless (Acknowledges seq) more none))
-written_readable vb asked (AcknowledgesBytes bytes ∷ more) few low noops none =
-    All-cons Readable (dcp_frame (msg.BufferAcknowledgement bytes) asked 0) (written vb asked more) (bytes_readable asked bytes (omega arith)) (written_readable vb asked more few low noops (All-tail Stateless (AcknowledgesBytes bytes) more none))
-written_readable vb asked (AnswersNoop opaque ∷ more) few low noops none =
+pub written_readable : (vb asked : ℕ) (more : List Writes) → vb < 2 ^ 16 → asked + asks_in more < 2 ^ 32 → Opaques (filter_map noop_written more) → All Readable (written vb asked more)
+written_readable vb asked [] few low noops = All-nil Readable
+written_readable vb asked (Asks ask ∷ more) few low noops =
+    All-cons Readable (dcp_frame (msg.StreamRequest ask) (asked + 1) vb) (written vb (asked + 1) more) (ask_readable vb few (asked + 1) ask (omega arith)) (written_readable vb (asked + 1) more few (omega arith) noops)
+written_readable vb asked (Acknowledges seq ∷ more) few low noops =
+    All-cons Readable (dcp_frame (msg.SeqnoAcknowledged seq) asked vb) (written vb asked more) (seqno_readable vb few asked seq (omega arith)) (written_readable vb asked more few low noops)
+written_readable vb asked (AcknowledgesBytes bytes ∷ more) few low noops =
+    All-cons Readable (dcp_frame (msg.BufferAcknowledgement bytes) asked 0) (written vb asked more) (bytes_readable asked bytes (omega arith)) (written_readable vb asked more few low noops)
+written_readable vb asked (AnswersNoop opaque ∷ more) few low noops =
     All-cons Readable (dcp_frame (msg.NoopAnswer SUCCESS) opaque 0) (written vb asked more) (noop_readable opaque (All-head (λ n. n < 2 ^ 32) opaque (filter_map noop_written more) noops))
-    (written_readable vb asked more few low (All-tail (λ n. n < 2 ^ 32) opaque (filter_map noop_written more) noops) (All-tail Stateless (AnswersNoop opaque) more none))
-written_readable vb asked (AnswersState opaque ∷ more) few low noops none = absurd (All-head Stateless (AnswersState opaque) more none)
+    (written_readable vb asked more few low (All-tail (λ n. n < 2 ^ 32) opaque (filter_map noop_written more) noops))
+written_readable vb asked (AnswersState opaque ∷ more) few low noops =
+    All-cons Readable (dcp_frame (msg.StateAnswer SUCCESS) (as_read opaque) 0) (written vb asked more) (state_readable (as_read opaque) (small_read opaque)) (written_readable vb asked more few low noops)
 
 -- ---- how many bytes each of them acknowledges
 
@@ -128,7 +150,7 @@ written_names vb asked (AcknowledgesBytes bytes ∷ more) low =
     let rest = written_names vb asked more (All-tail (λ n. n < 2 ^ 32) bytes (filter_map bytes_written more) low) in
     omega (arith, sum_by-cons (λ n. n) bytes (filter_map bytes_written more)))
 written_names vb asked (AnswersNoop opaque ∷ more) low = sum_by-cons acknowledged_by (dcp_frame (msg.NoopAnswer SUCCESS) opaque 0) (written vb asked more) ∙ (let e = noop_names opaque in let rest = written_names vb asked more low in omega arith)
-written_names vb asked (AnswersState opaque ∷ more) low = sum_by-cons acknowledged_by (dcp_frame (msg.StateAnswer SUCCESS) opaque 0) (written vb asked more) ∙ (let e = state_names opaque in let rest = written_names vb asked more low in omega arith)
+written_names vb asked (AnswersState opaque ∷ more) low = sum_by-cons acknowledged_by (dcp_frame (msg.StateAnswer SUCCESS) (as_read opaque) 0) (written vb asked more) ∙ (let e = state_names (as_read opaque) in let rest = written_names vb asked more low in omega arith)
 
 -- ---- the opaques of the NOOPs among frames
 
@@ -190,7 +212,6 @@ pub record Delivered (frames : List Frame) (dial : PlainDial) (told : DialResult
   pub dialed : told.dial.consumer.dialed ≡ dial.consumer.dialed
   pub counts : over_why told.dial.consumer.handshake ≡ None → 0 < dial.consumer.dialed.buffer → counted_bytes frames < 2 ^ 32 → Names (counted_bytes frames) (filter_map bytes_written more)
   pub noops : All Readable frames → Opaques (filter_map noop_written more)
-  pub states : dial.consumer.dialed.takeover ≡ false → All Stateless more
 
 whole : (n : ℕ) → n < 2 ^ 32 → min n 4294967295 ≡ n
 whole n low = grind (arith, low)
@@ -200,8 +221,8 @@ owed_by : (frames : List Frame) (dial : PlainDial) (bytes : List ℕ) → OwesBy
 owed_by frames dial bytes owes goes buffered low (inl some) =
     subst (Names (counted_bytes frames)) (sym (owes.owed goes buffered some ∙ ap (λ n. n ∷ []) (whole (counted_bytes frames) low)))
     (All-cons (λ k. k < 2 ^ 32) (counted_bytes frames) [] low (All-nil (λ k. k < 2 ^ 32)), omega arith)
-owed_by frames dial bytes owes goes buffered low (inr zero) =
-    subst (Names (counted_bytes frames)) (sym (owes.uncounted (λ some. let above = some_bytes frames some in absurd (omega arith)))) (All-nil (λ k. k < 2 ^ 32), sym zero)
+owed_by frames dial bytes owes goes buffered low (inr nothing) =
+    subst (Names (counted_bytes frames)) (sym (owes.uncounted (λ some. let above = some_bytes frames some in absurd (omega arith)))) (All-nil (λ k. k < 2 ^ 32), sym nothing)
 
 pub delivered : (piece : List ℕ) (dial : PlainDial) (states : States) (shelves : Shelves) → Delivered (frames_in (dial.heard ++ piece)) dial (after_job (dial_bytes piece dial) states shelves).1
 delivered piece dial states shelves =
@@ -219,5 +240,4 @@ delivered piece dial states shelves =
       counts = λ goes buffered low. subst (Names (counted_bytes frames)) (sym is.acknowledged.counted)
           (owed_by frames told.dial is.bytes is.owes goes (subst (λ (d : Dialed). 0 < d.buffer) (sym link.dialed) buffered) low (some_or_none frames));
       noops = λ good. subst Opaques (sym is.acknowledged.answered) (answers_low frames told.dial is.noops is.answers good);
-      states = λ alone. all_stateless dial.consumer.dialed alone link.writes.0 link.writes.3;
     }

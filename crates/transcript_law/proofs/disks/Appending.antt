@@ -5,7 +5,7 @@ use Rattle.transcript_law.proofs.Words.{Member, consumer_node, eq-eqb, eqb-true,
 use Rattle.std.specs.Prelude.{◌==◌}
 use Rattle.transcript_law.proofs.{invariant.{Carried.{all_there}, Carrying.{SameClients}, Owed.{fewer_same}, ClientsKept.{ConnsKept, Every, clients_kept, every_owed, goes_same, spot_at}, LinkFeeds.{feeds_same}}, verbs.NodeLines.{clients_again}}
 use Rattle.transcript_law.proofs.{invariant.Agreement.{clock_of, AgreesAt, AgreesIn, Agrees, Busy, DiskIsIf, IsArm, IsLink, LinksDiffer, Power, PowerIs, PowerIsIf, RestsIn, VbAgrees, VbIsIf, consumer_seat, idle, power_of, producer_seat, shelf_of, top, vb_of, vb_row}, disks.ArmedLines.{ArmedCame}}
-use Rattle.transcript_law.proofs.{disks.Burning.{BreaksUnder, breaks_under, late_bare, quiet_same, stands_under}, invariant.Carried.{branches_again, ids_same, kept_same, link_carried, numbers, places}, invariant.Carrying.{SameOffs, off_of}}
+use Rattle.transcript_law.proofs.{disks.Burning.{BreaksUnder, breaks_under, late_bare, quiet_same, stands_under}, invariant.Carried.{as_far, branches_again, ids_same, kept_same, link_carried, numbers, places}, invariant.Carrying.{SameOffs, off_of}}
 use Rattle.transcript_law.proofs.{disks.Disks.{FlushIs, Parts, SameParts, ShelfIs, bare, disk_same, parts_of, power_in, same_parts}, invariant.OneLink.{disk_here, disk_there}, invariant.Resting.{ends_off, rests_with}, invariant.Seats.{seat, seats_apart}, invariant.Tables.{at_here, at_there, id_here, id_there}, links.Turning.{put_itself}}
 use Rattle.{branch_model.specs.Journals.{cas_of_last, place_of}, cluster_model.specs.Clusters.{Disk, MayAppend, MayStand, appended}, disk_journals.specs.Arms.{under}, node_core.specs.Admin.{noted_answer}}
 use Rattle.{node_world.specs.Arms.{fired_by}, node_world.specs.Worlds.{is_up}, vb_calls.specs.Flushes.{wrote_of}}
@@ -251,8 +251,8 @@ module _ (busy : Busy) (w w' : PlainWorld) (r : Chronicle) (arms : ℕ → ArmKn
     vbs = vbs;
     disks = disks;
     branches = branches_again kept.tree refl (ids_same same.uuids) a.branches;
-    links = λ x i. link_carried w w' r r' c kept.now x (busy (link_number x)).0 (busy (link_number x)).1 (λ fv e. (fv, same.vbs (consumer_node x) x.consumer.dialed.vb ∙ e, kept_same fv)) refl refl refl
-        (kept.nodes (consumer_seat x)) (λ p k s e active opened has. (p, same.vbs (producer_node x) x.consumer.dialed.vb ∙ e, active, opened, ap (λ (m : Member). m.br) (kept.nodes (producer_seat x))))
+    links = λ x i. link_carried w w' r r' c kept.now x (busy (link_number x)).0 (busy (link_number x)).1 (λ fv e. (fv, same.vbs (consumer_node x) x.consumer.dialed.vb ∙ e, kept_same fv)) refl refl refl refl
+        (kept.nodes (consumer_seat x)) (λ p k s e feeds opened has. (p, same.vbs (producer_node x) x.consumer.dialed.vb ∙ e, refl, opened, ap (λ (m : Member). m.br) (kept.nodes (producer_seat x)), λ dead. ap (λ (m : Member). m.position) (kept.nodes (producer_seat x)), as_far (ap (λ (m : Member). m.position) (kept.nodes (producer_seat x)))))
         (a.links x (subst (IsLink x) same.linked i));
     differ = subst LinksDiffer (sym same.linked) a.differ;
     clients = clients_kept w w' r r' 0 a.clients (all_there busy w r c a) conns (λ l m q id has. inl (feeds_same w w' same.linked l m q id has))

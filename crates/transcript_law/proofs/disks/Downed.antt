@@ -86,18 +86,20 @@ below_more k m (other ∷ lines) more a le b e = absurd a
 pub record StillTold (k : ℕ) (r r' : Chronicle) : Type 0 where
   pub dial : r'.dial_of k ≡ r.dial_of k
   pub stream : (q : ℕ) → r'.stream_of (StreamName.Link k) q ≡ r.stream_of (StreamName.Link k) q
+  pub state : r'.stated_of k ≡ r.stated_of k
   pub point : r'.point_of k ≡ r.point_of k
 
 pub spared : (k : ℕ) (r : Chronicle) (lines : List Event) → AreEnds lines → Spare k lines → StillTold k r (after_lines r lines)
-spared k r [] a s = record { dial = refl; stream = λ q. refl; point = refl }
+spared k r [] a s = record { dial = refl; stream = λ q. refl; state = refl; point = refl }
 spared k r (Event.Ended l reason ∷ lines) a s =
     let x = spared k (after_end r l) lines a s.1 in
     record {
       dial = x.dial ∙ id_there r.dial_of l None k (λ e. s.0 (sym e));
       stream = λ q. x.stream q ∙ ended_there r l k q s.0;
+      state = x.state ∙ id_there r.stated_of l None k (λ e. s.0 (sym e));
       point = x.point ∙ id_there r.point_of l None k (λ e. s.0 (sym e));
     }
-spared k r (Event.Closed n c ∷ lines) a s = let x = spared k (after_line r (Event.Closed n c)) lines a s in record { dial = x.dial; stream = x.stream; point = x.point }
+spared k r (Event.Closed n c ∷ lines) a s = let x = spared k (after_line r (Event.Closed n c)) lines a s in record { dial = x.dial; stream = x.stream; state = x.state; point = x.point }
 spared k r (other ∷ lines) a s = absurd a
 
 -- only clients of the node n are told closed
@@ -286,7 +288,7 @@ retold w r c dials streams points states a still = record {
   disks = a.disks;
   branches = a.branches;
   links = λ x i. let s = still x i in
-      link_carried w w r (with_ends r dials streams points states) c c x [] [] (λ f e. (f, e, kept_same f)) s.dial (s.stream x.consumer.dialed.vb) s.point refl
+      link_carried w w r (with_ends r dials streams points states) c c x [] [] (λ f e. (f, e, kept_same f)) s.dial (s.stream x.consumer.dialed.vb) s.state s.point refl
       (stays_same (vb_of w (producer_node x) x.consumer.dialed.vb) (c.nodes (producer_seat x)) x) (a.links x i);
   differ = a.differ;
   clients = let kept = all_kept w w r (with_ends r dials streams points states) (λ m d. refl) (λ m d. refl) refl (λ n v. refl) (λ n v. refl) in
@@ -351,7 +353,7 @@ module _ (stays : StaysSound) (w : PlainWorld) (r : Chronicle) (c : Cluster) (n 
         cluster = were_cut.cluster;
         agrees = subst (λ q. AgreesIn idle (all_cut n w) q were_cut.cluster) (sym (ap (λ q. with_known q r.clients_at) same))
             (retold (all_cut n w) r were_cut.cluster (after_lines r lines).dial_of (after_lines r lines).stream_of (after_lines r lines).point_of (after_lines r lines).stated_of were_cut.agrees
-            (λ x i. let s = spared (link_number x) r lines ends (spares x i) in record { dial = s.dial; stream = s.stream; point = s.point }));
+            (λ x i. let s = spared (link_number x) r lines ends (spares x i) in record { dial = s.dial; stream = s.stream; state = s.state; point = s.point }));
         others = closed_there n r lines ends (down_closes n also w);
         apart = untouched;
         powers = were_cut.powers;

@@ -1,7 +1,7 @@
 -- a node that is loaded: what agreed while it was down agrees
 use Rattle.std.specs.Prelude.{◌≡◌, ◌∷◌, if◌then◌else◌, option_map}
 use Rattle.transcript_law.proofs.Words.{ℕ, Bool, true, false, List, [], refl, ap, sym, ◌∙◌, subst, ⊎_elim, Option, Some, None, eq-eqb, ne_eqb, is_some, length, Cluster, Plain, PlainLink, PlainNode, PlainWorld, consumer_node, producer_node, shelf_in, vb_in, with_node_at, Chronicle}
-use Rattle.transcript_law.proofs.{invariant.Agreement.{clock_of, AgreesAt, AgreesIn, AwayAt, BookBy, BookAgrees, DiskIsIf, DownHolds, IsArm, IsLink, LinkAgrees, PowerIs, PowerIsIf, RestsIn, book_in, idle, is_down, is_running, power_of, shelf_of, vb_of}, disks.Burning.{burns, opened_all}, invariant.Carried.{kept_same, link_carried, numbers}}
+use Rattle.transcript_law.proofs.{invariant.Agreement.{clock_of, AgreesAt, AgreesIn, AwayAt, BookBy, BookAgrees, DiskIsIf, DownHolds, IsArm, IsLink, LinkAgrees, PowerIs, PowerIsIf, RestsIn, book_in, idle, is_down, is_running, power_of, shelf_of, vb_of}, disks.Burning.{burns, opened_all}, invariant.Carried.{as_near, kept_same, link_carried, numbers}}
 use Rattle.transcript_law.proofs.{disks.Disks.{AwayAgrees, power_in}, disks.Reloading.{loaded_is, loaded_shelf}, invariant.Seats.{seat}, disks.Shelving.{count_listed, loaded_at, loaded_of, opened_at_number}, invariant.Tables.{id_here, id_there}}
 use Rattle.cluster_model.specs.Clusters.{Disk}
 use Rattle.disk_journals.specs.Arms.{opens_all}
@@ -125,8 +125,8 @@ module _ (w : PlainWorld) (r : Chronicle) (c : Cluster) (n : ℕ) (node : PlainN
     vb_there m v ne = ap (λ o. vb_in o v) (there m ne)
 
     linked : (x : PlainLink) → IsLink x w.links → LinkAgrees w' r' c x [] []
-    linked x i = let p = apart x i in link_carried w w' r r' c c x [] [] (λ fv e. (fv, vb_there (consumer_node x) x.consumer.dialed.vb p.1 ∙ e, kept_same fv)) refl refl refl refl
-        (λ q k s e active opened has. (q, vb_there (producer_node x) x.consumer.dialed.vb p.0 ∙ e, active, opened, refl)) (a.links x i)
+    linked x i = let p = apart x i in link_carried w w' r r' c c x [] [] (λ fv e. (fv, vb_there (consumer_node x) x.consumer.dialed.vb p.1 ∙ e, kept_same fv)) refl refl refl refl refl
+        (λ q k s e feeds opened has. (q, vb_there (producer_node x) x.consumer.dialed.vb p.0 ∙ e, refl, opened, refl, λ dead. refl, as_near)) (a.links x i)
 
     abbrev burnt : ArmKnown
     burnt = record (r.arm_at n) { fuse = spent count (r.arm_at n).fuse }

@@ -6,6 +6,7 @@ use Rattle.transcript_law.proofs.disks.Disks.{AwayAgrees, ShelfIs, bare, no_spot
 use Rattle.transcript_law.proofs.invariant.Agreement.{AgreesAt, AgreesIn, AwayAt, DiskIsIf, EntryFits, IsAway, VbAgrees, VbTold, idle, no_counts, no_lefts, no_times, own_history, power_of, shelf_of, top, vb_contents, vb_of, vb_row}
 use Rattle.transcript_law.proofs.invariant.Bounded.{Bounded, Reads, Weighs}
 use Rattle.transcript_law.proofs.invariant.Forked.{fork_holds}
+use Rattle.transcript_law.proofs.invariant.Holdings.{opened_as}
 use Rattle.transcript_law.proofs.invariant.Seats.{seat}
 use Rattle.transcript_law.proofs.invariant.Wholes.{WholeTo, spanned_none}
 use Rattle.transcript_law.proofs.links.Followed.{fork_low, no_writes, own_is}
@@ -37,6 +38,11 @@ loaded_rests role.Active = refl
 loaded_rests role.Replica = refl
 loaded_rests role.Pending = refl
 loaded_rests role.Dead = refl
+
+-- and it is not about to take a branch over, where it was active
+pub loaded_unpended : (x : Role) → is_active x ≡ true → loaded_role x ≡ role.Pending → ⊥
+loaded_unpended role.Active e q = cc
+loaded_unpended other e q = cc
 
 module _ (w : PlainWorld) (r : Chronicle) (c : Cluster) (n v : ℕ) (a : AgreesIn idle w r c) (none : vb_of w n v ≡ None) (no_shelf : shelf_of w n v ≡ None) (last : Record) (older : List Record) (is : (c.disks (seat n v)).book ≡ last ∷ older) where
   abbrev k : ℕ
@@ -135,7 +141,7 @@ module _ (w : PlainWorld) (r : Chronicle) (c : Cluster) (n v : ℕ) (a : AgreesI
           (fork_holds c k (own_history r n v) a.sound (own_is r c n v m a.hists a.rootless away.branch));
     };
     role = rest.role ∙ ap (λ b. Some (resting b)) is ∙ ap (λ (x : Role). Some (Some x)) (rested_is (role_of js));
-    opened = away.opened;
+    opened = opened_as vb.role (r.open_at n v) false away.opened;
     writes = no_writes r n v m.br vb.role (loaded_rests (or_dead (role_of js)));
     counts = no_counts vb.role (r.counts_at n v) vb.others vb.acks (loaded_rests (or_dead (role_of js)));
     lefts = no_lefts vb.role (r.counts_at n v).risen vb.position.at vb.waiting (loaded_rests (or_dead (role_of js)));

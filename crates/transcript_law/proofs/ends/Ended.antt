@@ -1,14 +1,14 @@
 -- behind the group of each line no link is left that ended with it, and each that is dialed then is one of the world's
 use Rattle.std.specs.Prelude.{◌≡◌, ◌⊎◌, ◌∷◌, ◌++◌, ◌==◌, ◌&&◌, ◌||◌, if◌then◌else◌}
-use Rattle.transcript_law.proofs.Words.{ℕ, Bool, true, false, List, [], refl, ap, sym, ◌∙◌, subst, inl, inr, ⊎_elim, drop, take, not, eqb-true, Option, Some, None, is_some, AdminCall, Answer, Cause, Chronicle, Event, EndReason, LinkResult, LinkVerb, NodeVerb, Role, StreamAsk, VbReply, Verb, VbVerb, PlainLink, PlainNode, PlainWorld, Outcome, Told}
-use Rattle.transcript_law.proofs.Words.{admin_line, admin_result, after, after_lines, ask_in, clock_at, consumer_node, cut_outcome, dial_of, done, empty_node, first_cause, is_taken, link_causes, link_number, moved_len, node_causes, on_link, on_node, own_link, peer_of, producer_node, promote_causes, pump_at, refused_or, replica_at, replica_causes, role_outcome, row_at, turn_causes, up_at, vb_at, vb_causes, vb_in, verb_step, with_branches, with_dialed, with_id, with_links, with_node_at}
-use Rattle.node_core.specs.{Admin.{admin_job, role_at}, Dials.{dial_due}, Peers.{peer_pulled}}
+use Rattle.transcript_law.proofs.Words.{ℕ, Bool, true, false, List, [], refl, ap, sym, ◌∙◌, subst, inl, inr, ⊎_elim, drop, take, not, eqb-true, Option, Some, None, is_some, AdminCall, Answer, Cause, Chronicle, Event, EndReason, LinkVerb, NodeVerb, Role, StreamAsk, VbReply, Verb, VbVerb, PlainLink, PlainNode, PlainWorld, Outcome, Told}
+use Rattle.transcript_law.proofs.Words.{admin_line, admin_result, after, after_lines, ask_in, clock_at, consumer_node, cut_outcome, dial_of, done, empty_node, first_cause, is_taken, link_causes, link_number, moved_len, node_causes, on_node, own_link, peer_of, producer_node, promote_causes, refused_or, replica_at, replica_causes, role_outcome, row_at, turn_causes, up_at, vb_at, vb_causes, vb_in, verb_step, with_branches, with_dialed, with_id, with_links, with_node_at}
+use Rattle.node_core.specs.{Admin.{admin_job, role_at}, Dials.{dial_due}}
 use Rattle.node_world.proofs.Keeping.{due_dialed}
-use Rattle.node_world.specs.{Arms.{fail_arm, stop_arm}, Dues.{done_step, due_at, due_in, due_of, is_counted, with_due}, Links.{new_link, peer_given, with_server, with_up}, Nodes.{arm_at, chain_line, flush_line, save_line, tick_line}, Power.{crash_causes, crash_step, down_lines, dropped, start_at, start_causes, start_step, with_arm}, World.{client_verb_at, cut_step, link_verb_step, relinked, vb_verb_step}, Worlds.{is_off, on_made}}
+use Rattle.node_world.specs.{Arms.{fail_arm, stop_arm}, Dues.{done_step, due_at, due_in, due_of, is_counted, with_due}, Links.{new_link, peer_given, with_up}, Nodes.{arm_at, chain_line, flush_line, save_line, tick_line}, Power.{crash_causes, crash_step, down_lines, dropped, start_at, start_causes, start_step, with_arm}, World.{client_verb_at, cut_step, link_verb_step, vb_verb_step}, Worlds.{is_off, on_made}}
 use Rattle.transcript_law.proofs.balance.Leaving.{made_links, node_links}
-use Rattle.transcript_law.proofs.ends.{Links.{AllLinked, IsThere, Kept, kept_both, kept_dropped, kept_more, kept_out, kept_put, kept_same, none_at}, Steps.{Ends, armed_ends, calm_free, dies_silent, down_line_ends, fired_free, follows_silent, rises_silent, role_ends}, Told.{EndsIn, IsNew, ahead_shrinks, goes_on, in_front, verb_shrinks}}
+use Rattle.transcript_law.proofs.ends.{Pumps.{pump_kept, puts_kept}, Links.{AllLinked, IsThere, Kept, kept_both, kept_dropped, kept_more, kept_out, kept_put, kept_same, none_at}, Steps.{Ends, armed_ends, calm_free, dies_silent, down_line_ends, fired_free, follows_silent, rises_silent, role_ends}, Told.{EndsIn, IsNew, ahead_shrinks, goes_on, in_front, verb_shrinks}}
 use Rattle.transcript_law.proofs.{disks.{Disks.{power_of}, Fired.{ends_calm}}, invariant.{Agreement.{Agrees, IsLink, is_down}, LinkRows.{found_is_link}, Ranged.{IsRanged}, Resting.{not_down, off_as_power}, Tables.{id_here}}, lines.Calm.{Calm, spared_calm}}
-use Rattle.transcript_law.proofs.verbs.{BoundAnswers.{start_refused}, FiredLines.{made_calm, refused_calm, role_calm, save_calm}, NodeLines.{on_link_by}, StopTellings.{AreDialed, dial_told, world_dialed}}
+use Rattle.transcript_law.proofs.verbs.{BoundAnswers.{start_refused}, FiredLines.{made_calm, refused_calm, role_calm, save_calm}, StopTellings.{AreDialed, dial_told, world_dialed}}
 use Rattle.transcript_law.specs.{Bound.{IsNoOf}, Chronicles.{Dial, after_group, ahead, at_line}, Ends.{AllEnded, Dials, NoneAt, NoneLeft, NoneTurned}, Firings.{FiresAsSaid, FiresInLine}, LinesTold.{is_dial_at}}
 use Rattle.vb_disk.specs.declared.made.Outcome.{Outcome as Left}
 use Rattle.vb_types.specs.declared.journal.FlushPart.TheVariants as part
@@ -44,13 +44,6 @@ module _ (w : PlainWorld) (r : Chronicle) (ranged : IsRanged w) (a : Agrees w r)
   -- one that its node carries out, and may write down
   node_armed : (n : ℕ) (f : PlainNode → PlainNode × Told) → Calm (on_node w n f).1.events → Ends' (with_arm n w (on_node w n f))
   node_armed n f calm = armed_ends w r a linked n (on_node w n f) (subst (AreDialed r) (sym (node_links w n _ (w.nodes n) _)) (world_dialed w r a)) (node_same n f) calm
-
-  -- a link with another one in its place
-  link_kept : (l : ℕ) (end : PlainLink → ℕ) (f : PlainLink → PlainNode → PlainNode × LinkResult) → ((link : PlainLink) (node : PlainNode) → (k : PlainLink) × ((f link node).1.0 ≡ Some k) × (link_number k ≡ link_number link)) → (let o = on_link w l end f in Kept w.links o.0.links o.1.events)
-  link_kept l end f puts = on_link_by (λ o. Kept w.links o.0.links o.1.events) w l end f (kept_same w.links w.links [] refl)
-      (λ link found. kept_put (link_number link) link w.links [] refl)
-      (λ link node found known. let (k, is, same) = puts link node in let lines = (f link node).1.1.events in
-      subst (λ o. Kept w.links (relinked link o (with_node_at w (end link) (f link node).0)).links lines) (sym is) (kept_put (link_number link) k w.links lines same))
 
   due_kept : (n v : ℕ) (o : Outcome) → Kept w.links o.0.links o.1.events → (let x = due_in n v o in Kept w.links x.0.links x.1.events)
   due_kept n v o kept = by_counted (is_counted o.1.answer)
@@ -132,9 +125,9 @@ module _ (w : PlainWorld) (r : Chronicle) (ranged : IsRanged w) (a : Agrees w r)
   refused_kept None x kept = kept
   refused_kept (Some why) x kept = kept_same w.links w.links [] refl
 
-  dialed_kept : (number l m n v buffer : ℕ) (o : Option StreamAsk) → Kept w.links (with_dialed number l m n v buffer w.links o) []
-  dialed_kept number l m n v buffer None = kept_same w.links w.links [] refl
-  dialed_kept number l m n v buffer (Some ask) = kept_more w.links (new_link number l m n v buffer ask ∷ []) []
+  dialed_kept : (number l m n v buffer : ℕ) (takeover : Bool) (o : Option StreamAsk) → Kept w.links (with_dialed number l m n v buffer takeover w.links o) []
+  dialed_kept number l m n v buffer takeover None = kept_same w.links w.links [] refl
+  dialed_kept number l m n v buffer takeover (Some ask) = kept_more w.links (new_link number l m n v buffer takeover ask ∷ []) []
 
   armed_all : (line : Verb) (o : Outcome) → ((said : Answer) → NoneLeft (after_lines r o.1.events).dial_of line o.1.events said) → Ends' o → EndsAll line o
   armed_all line o none ends = (ends.0, (none o.1.answer, ends.1))
@@ -161,17 +154,16 @@ module _ (w : PlainWorld) (r : Chronicle) (ranged : IsRanged w) (a : Agrees w r)
 
   link_all : (l : ℕ) (what : LinkVerb) → (let o = link_verb_step w l what in FiresInLine r (Verb.AtLink l what) o.1.events o.1.answer → EndsAll (Verb.AtLink l what) o)
   link_all l (LinkVerb.Up wanted) fires = calm_all (Verb.AtLink l (LinkVerb.Up wanted)) (link_verb_step w l (LinkVerb.Up wanted)) (λ said. tt)
-      (link_kept l producer_node (up_at wanted) (λ link node. (with_up link (moved_len wanted link.up) (peer_given (take (moved_len wanted link.up) link.up) (peer_of link) node).1, refl, refl))) fires
-  link_all l (LinkVerb.Pump frames) fires = calm_all (Verb.AtLink l (LinkVerb.Pump frames)) (link_verb_step w l (LinkVerb.Pump frames)) (λ said. tt)
-      (link_kept l producer_node (pump_at frames) (λ link node. let x = after (peer_pulled frames (peer_of link)) node.vbs in (with_server link x.1.peer x.1.out, refl, refl))) fires
+      (puts_kept w l producer_node (up_at wanted) (λ link node. (with_up link (moved_len wanted link.up) (peer_given (take (moved_len wanted link.up) link.up) (peer_of link) node).1, refl, refl))) fires
+  link_all l (LinkVerb.Pump frames) fires = calm_all (Verb.AtLink l (LinkVerb.Pump frames)) (link_verb_step w l (LinkVerb.Pump frames)) (λ said. tt) (pump_kept w l frames) fires
   link_all l (LinkVerb.Down wanted) fires = armed_all (Verb.AtLink l (LinkVerb.Down wanted)) (link_verb_step w l (LinkVerb.Down wanted)) (λ said. tt) (down_line_ends w r a linked l wanted)
   link_all l LinkVerb.Cut fires = cut_all l
 
   -- each line of a script
   pub line_ends : (number : ℕ) (line : Verb) → (let o = verb_step w number line in FiresInLine r line o.1.events o.1.answer → EndsAll line o)
   line_ends number (Verb.Node n) fires = calm_all (Verb.Node n) (verb_step w number (Verb.Node n)) (λ said. tt) (refused_kept (first_cause (node_causes w n)) (with_node_at w n empty_node, done []) (kept_same w.links w.links [] refl)) fires
-  line_ends number (Verb.Link l m n v buffer) fires = calm_all (Verb.Link l m n v buffer) (verb_step w number (Verb.Link l m n v buffer)) (λ said. tt)
-      (refused_kept (first_cause (link_causes w l m n v)) (with_links w (with_dialed number l m n v buffer w.links (ask_in w n v)), done []) (dialed_kept number l m n v buffer (ask_in w n v))) fires
+  line_ends number (Verb.Link l m n v buffer takeover) fires = calm_all (Verb.Link l m n v buffer takeover) (verb_step w number (Verb.Link l m n v buffer takeover)) (λ said. tt)
+      (refused_kept (first_cause (link_causes w l m n v)) (with_links w (with_dialed number l m n v buffer takeover w.links (ask_in w n v)), done []) (dialed_kept number l m n v buffer takeover (ask_in w n v))) fires
   line_ends number (Verb.AtNode n (NodeVerb.Clock nanos)) fires = calm_all (Verb.AtNode n (NodeVerb.Clock nanos)) (verb_step w number (Verb.AtNode n (NodeVerb.Clock nanos))) (λ said. tt) (node_same n (clock_at nanos)) fires
   line_ends number (Verb.AtNode n (NodeVerb.Stop k out)) fires = calm_all (Verb.AtNode n (NodeVerb.Stop k out)) (verb_step w number (Verb.AtNode n (NodeVerb.Stop k out))) (λ said. tt) (made_same n (arm_at (stop_arm k out))) fires
   line_ends number (Verb.AtNode n (NodeVerb.Fail k)) fires = calm_all (Verb.AtNode n (NodeVerb.Fail k)) (verb_step w number (Verb.AtNode n (NodeVerb.Fail k))) (λ said. tt) (made_same n (arm_at (fail_arm k))) fires
@@ -183,23 +175,23 @@ module _ (w : PlainWorld) (r : Chronicle) (ranged : IsRanged w) (a : Agrees w r)
 
   -- a link that a line dialed is there
   pub new_there : (number : ℕ) (line : Verb) (l : ℕ) → (let o = verb_step w number line in IsNew line o.1.answer l → IsThere l o.0.links)
-  new_there number (Verb.Link k m n v buffer) l is = by (not (is_some (w.nodes m) && is_some (w.nodes n))) (is_off (w.nodes m) || is_off (w.nodes n)) (not (is_some (vb_in (w.nodes n) v))) (ask_in w n v) (is_taken w.links k n v) is
+  new_there number (Verb.Link k m n v buffer takeover) l is = by (not (is_some (w.nodes m) && is_some (w.nodes n))) (is_off (w.nodes m) || is_off (w.nodes n)) (not (is_some (vb_in (w.nodes n) v))) (ask_in w n v) (is_taken w.links k n v) is
     where
       line : Verb
-      line = Verb.Link k m n v buffer
+      line = Verb.Link k m n v buffer takeover
 
       last : (links : List PlainLink) (x : PlainLink) → IsLink x (links ++ x ∷ [])
       last [] x = inl refl
       last (z ∷ zs) x = inr (last zs x)
 
       by : (b c d : Bool) (o : Option StreamAsk) (e : Bool)
-          → (let x = refused_or (first_cause ((b, Cause.UnknownNode) ∷ (c, Cause.NodeDown) ∷ (d, Cause.UnknownVb) ∷ (not (is_some o), Cause.WrongRole) ∷ (e, Cause.LinkOpen) ∷ [])) w (with_links w (with_dialed number k m n v buffer w.links o), done []) in IsNew line x.1.answer l → IsThere l x.0.links)
+          → (let x = refused_or (first_cause ((b, Cause.UnknownNode) ∷ (c, Cause.NodeDown) ∷ (d, Cause.UnknownVb) ∷ (not (is_some o), Cause.WrongRole) ∷ (e, Cause.LinkOpen) ∷ [])) w (with_links w (with_dialed number k m n v buffer takeover w.links o), done []) in IsNew line x.1.answer l → IsThere l x.0.links)
       by true c d o e is = absurd is
       by false true d o e is = absurd is
       by false false true o e is = absurd is
       by false false false None e is = absurd is
       by false false false (Some ask) true is = absurd is
-      by false false false (Some ask) false is = (new_link number k m n v buffer ask, last w.links (new_link number k m n v buffer ask), sym is)
+      by false false false (Some ask) false is = (new_link number k m n v buffer takeover ask, last w.links (new_link number k m n v buffer takeover ask), sym is)
   new_there number other l is = absurd is
 
 -- and behind the whole group each that is dialed is one of the world's

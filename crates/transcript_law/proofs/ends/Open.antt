@@ -1,16 +1,17 @@
 -- over a link that is dialed, and not told over, each line is carried out, and one is dialed only where none is
 use Rattle.std.specs.Prelude.{◌≡◌, ◌⊎◌, ◌∷◌, ◌==◌, ◌&&◌, ◌||◌, if◌then◌else◌}
-use Rattle.transcript_law.proofs.Words.{ℕ, Bool, true, false, List, [], refl, ap, sym, ◌∙◌, subst, inl, inr, ⊎_elim, take, not, list_any, and_parts, eqb-true, Option, Some, None, is_some, Answer, Cause, Chronicle, StreamAsk, PlainLink, PlainNode, PlainWorld, Outcome, Told, LinkResult}
-use Rattle.transcript_law.proofs.Words.{after_job, ask_in, consumer_node, cut_outcome, dial_of, done, feeds, first_cause, is_taken, link_causes, link_number, link_step, moved_len, node_outcome, on_link, producer_node, pump_at, refusal, refused_or, row_at, up_at, vb_in, with_dialed, with_link, with_links}
+use Rattle.transcript_law.proofs.Words.{ℕ, Bool, true, false, List, [], refl, ap, sym, ◌∙◌, subst, inl, inr, ⊎_elim, take, not, and_parts, eqb-true, Option, Some, None, is_some, Answer, Cause, Chronicle, PlainLink, PlainNode, PlainWorld, Outcome, Told, LinkResult}
+use Rattle.transcript_law.proofs.Words.{after_job, ask_in, consumer_node, cut_outcome, dial_of, done, feeds, first_cause, is_taken, link_number, link_step, moved_len, node_outcome, on_link, producer_node, refusal, refused_or, row_at, up_at, vb_in, with_dialed, with_link, with_links}
 use Rattle.dcp_consumer.specs.Machine.{over_why}
 use Rattle.node_core.specs.Dials.{dial_bytes, is_broken}
-use Rattle.node_world.specs.{Arms.{fired_by, placed}, Power.{after_broken, is_broken_answer, with_broken}, World.{cut_step, down_in, down_outcome, down_step, link_outcome}, Worlds.{arm_in, is_off}}
+use Rattle.node_world.specs.{Arms.{fired_by, placed}, Power.{after_broken, is_broken_answer, with_broken}, World.{cut_step, down_in, down_outcome, down_step, link_outcome, pump_outcome, pump_step}, Worlds.{arm_in, is_off}}
 use Rattle.node_world.specs.declared.arm.Fired.{Fired}
 use Rattle.node_world.specs.declared.arm.Fired.TheVariants as fired
 use Rattle.transcript_law.proofs.ends.Links.{AllLinked, found}
-use Rattle.transcript_law.proofs.{disks.Disks.{power_in}, invariant.{Agreement.{Agrees, IsLink, is_running}, LinkRows.{found_is_link}}, links.PumpAnswers.{moved_few, pump_says}}
+use Rattle.transcript_law.proofs.{disks.Disks.{power_in}, invariant.{Agreement.{Agrees, IsLink, is_running}, LinkRows.{found_is_link}}, invariant.Ranged.{IsRanged}, links.PumpAnswers.{moved_few}}
+use Rattle.transcript_law.proofs.ends.Pumps.{pump_told}
 use Rattle.transcript_law.proofs.verbs.{Dials.{free_links}, StopTellings.{dial_told, world_dialed}}
-use Rattle.transcript_law.specs.{Ends.{NoneFor}, LineAnswers.{IsCut, IsLinked, IsMoved, IsOver, IsOverIfNo, IsPumped}, LinesTold.{Dial, is_dial_for}}
+use Rattle.transcript_law.specs.{LineAnswers.{IsCut, IsLinked, IsMoved, IsOverIfNo, IsPumped}, LinesTold.{Dial, is_dial_for}}
 
 module _ (w : PlainWorld) (r : Chronicle) (a : Agrees w r) (linked : AllLinked w r.dial_of) where
   -- one of which there is none is not dialed
@@ -45,8 +46,22 @@ module _ (w : PlainWorld) (r : Chronicle) (a : Agrees w r) (linked : AllLinked w
   pub up_answered : (l wanted : ℕ) → IsMoved (r.dial_of l) wanted (on_link w l producer_node (up_at wanted)).1.answer
   up_answered l wanted = reached (λ told. IsMoved (r.dial_of l) wanted told.answer) l producer_node (up_at wanted) (λ none. none) producer_made (λ link node. moved_few wanted link.up)
 
-  pub pump_answered : (l frames : ℕ) → (let told = (on_link w l producer_node (pump_at frames)).1 in IsPumped (r.dial_of l) frames told.events told.answer)
-  pump_answered l frames = reached (λ told. IsPumped (r.dial_of l) frames told.events told.answer) l producer_node (pump_at frames) (λ none. none) producer_made (λ link node. (pump_says (r.dial_of l) frames link node).0)
+  pub pump_answered : IsRanged w → (l frames : ℕ) → (let told = (pump_step w l frames).1 in IsPumped (r.dial_of l) frames told.events told.answer)
+  pump_answered ranged l frames = by (row_at link_number l w.links) refl
+    where
+      Pumped : Told → Type 0
+      Pumped told = IsPumped (r.dial_of l) frames told.events told.answer
+
+      none : row_at link_number l w.links ≡ None → Pumped (pump_step w l frames).1
+      none e = subst (λ o. Pumped (pump_outcome w l frames o).1) (sym e) (undialed l e)
+
+      made : (link : PlainLink) → row_at link_number l w.links ≡ Some link → (o : Option PlainNode) → w.nodes (producer_node link) ≡ o → Pumped (pump_step w l frames).1
+      made link e None none = absurd (producer_made link (found_is_link l w.links link e).0 none)
+      made link e (Some node) known = pump_told w ranged (r.dial_of l) l frames link node e known
+
+      by : (o : Option PlainLink) → row_at link_number l w.links ≡ o → Pumped (pump_step w l frames).1
+      by None e = none e
+      by (Some link) e = made link e (w.nodes (producer_node link)) refl
 
   pub cut_answered : (l : ℕ) → IsCut (r.dial_of l) (cut_step w l).1.answer
   cut_answered l = by (row_at link_number l w.links) refl
@@ -140,6 +155,6 @@ module _ (w : PlainWorld) (r : Chronicle) (a : Agrees w r) (linked : AllLinked w
         by true e = taken e
         by false e = subst (IsLinked r.dial_of l n v) (sym ok) (free e)
 
-  pub link_answered : (number l m n v buffer : ℕ) → IsLinked r.dial_of l n v (link_step w number l m n v buffer).1.answer
-  link_answered number l m n v buffer = linked_so l n v (with_links w (with_dialed number l m n v buffer w.links (ask_in w n v)), done []) refl
+  pub link_answered : (number l m n v buffer : ℕ) (takeover : Bool) → IsLinked r.dial_of l n v (link_step w number l m n v buffer takeover).1.answer
+  link_answered number l m n v buffer takeover = linked_so l n v (with_links w (with_dialed number l m n v buffer takeover w.links (ask_in w n v)), done []) refl
       (not (is_some (w.nodes m) && is_some (w.nodes n))) (is_off (w.nodes m) || is_off (w.nodes n)) (not (is_some (vb_in (w.nodes n) v))) (not (is_some (ask_in w n v)))

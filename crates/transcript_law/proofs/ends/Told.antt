@@ -148,17 +148,17 @@ start_shrinks r n lines said = by said
 
 -- the link that is dialed anew
 abbrev pub IsNew : Verb → Answer → ℕ → Type 0
-IsNew (Verb.Link k m n v buffer) Answer.Ok l = l ≡ k
+IsNew (Verb.Link k m n v buffer takeover) Answer.Ok l = l ≡ k
 IsNew other said l = ⊥
 
 -- each other one that is dialed behind a line was so behind its lines
 pub verb_shrinks : (before r : Chronicle) (line : Verb) (lines : List Event) (said : Answer) (l : ℕ) (d : Dial) → (after_verb before r line lines said).dial_of l ≡ Some d → (r.dial_of l ≡ Some d) ⊎ IsNew line said l
-verb_shrinks before r (Verb.Link k m n v buffer) lines Answer.Ok l d e = by (l == k) refl e
+verb_shrinks before r (Verb.Link k m n v buffer takeover) lines Answer.Ok l d e = by (l == k) refl e
   where
     by : (b : Bool) → (l == k) ≡ b → (if b then Some (record { producer = m; node = n; vb = v }) else r.dial_of l) ≡ Some d → (r.dial_of l ≡ Some d) ⊎ (l ≡ k)
     by true t q = inr (eqb-true l k t)
     by false t q = inl q
-verb_shrinks before r (Verb.Link k m n v buffer) lines other l d e = inl e
+verb_shrinks before r (Verb.Link k m n v buffer takeover) lines other l d e = inl e
 verb_shrinks before r (Verb.AtVb n v (VbVerb.MakeActive uuid)) lines said l d e = inl (made_shrinks r n v Role.Active said l d e)
 verb_shrinks before r (Verb.AtVb n v VbVerb.MakeReplica) lines said l d e = inl (made_shrinks r n v Role.Replica said l d e)
 verb_shrinks before r (Verb.AtVb n v (VbVerb.Promote uuid)) lines said l d e = inl (noted_shrinks r n v Role.Active said l d e)

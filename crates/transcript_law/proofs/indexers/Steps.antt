@@ -5,7 +5,7 @@ use Rattle.transcript_law.proofs.Words.{PlainLink, link_number, producer_node, c
 use Rattle.node_core.specs.Clients.{PlainClient}
 use Rattle.transcript_law.proofs.disks.Disks.{SameParts, disk_same, parts_of, same_parts}
 use Rattle.transcript_law.proofs.invariant.Agreement.{clock_of, AgreesAt, AgreesIn, ClientAgrees, ClientsApart, ClientsTold, IsLink, LinkAgrees, LinksDiffer, PowerIsIf, RestsIn, idle, power_of, producer_seat, shelf_of, vb_of}
-use Rattle.transcript_law.proofs.invariant.Carried.{KeptVb, StaysProducer, branches_again, fed_same, ids_same, kept_same, kept_streams, link_carried, places, vb_carried}
+use Rattle.transcript_law.proofs.invariant.Carried.{KeptVb, StaysProducer, as_near, branches_again, fed_same, ids_same, kept_same, kept_streams, link_carried, places, vb_carried}
 use Rattle.transcript_law.proofs.invariant.Carrying.{StreamsChanged, off_of}
 use Rattle.transcript_law.proofs.invariant.ClientsKept.{GoesOver, agrees_over, fewer_now, fewer_streams, goes_same, goes_still, spot_at}
 use Rattle.transcript_law.proofs.invariant.LinkRows.{differ_in}
@@ -89,19 +89,21 @@ module _ (w w' : PlainWorld) (r : Chronicle) (cl : Cluster) (n c : ℕ) (step : 
 
   stays : (x : PlainLink) → IsLink x w.links
       → StaysProducer (vb_of w (producer_node x) x.consumer.dialed.vb) (vb_of w' (producer_node x) x.consumer.dialed.vb) (cl.nodes (producer_seat x)) (cl.nodes (producer_seat x)) x
-  stays x i p k s there active opened has = ⊎_elim (λ e. (p, e ∙ there, active, opened, refl))
+  stays x i p k s there feeds opened has = ⊎_elim (λ e. (p, e ∙ there, refl, opened, refl, λ dead. refl, as_near))
       (λ y.
       let is : Some p ≡ Some y.pv = sym there ∙ y.before in let same : p ≡ y.pv = cc in (
         y.pv',
         y.after,
-        ap (λ (z : Plain). is_active z.role) y.changed.alone ∙ subst (λ (z : Plain). is_active z.role ≡ true) same active,
+        ap (λ (z : Plain). z.role) y.changed.alone ∙ ap (λ (z : Plain). z.role) (sym same),
         y.changed.others k (λ e. y.free_links x i y.at (subst (λ j. HasOpen x.consumer.dialed.vb j x.server.streams) e has)) ∙ subst (λ (z : Plain). stream_at k z.streams ≡ Some s) same opened,
         refl,
+        λ dead. refl,
+        as_near,
       ))
       (step.vbs (producer_node x) x.consumer.dialed.vb)
 
   link_agrees : (x : PlainLink) → IsLink x w.links → LinkAgrees w' r cl x [] []
-  link_agrees x i = link_carried w w' r r cl cl x [] [] (λ fv e. follower (consumer_node x) x.consumer.dialed.vb fv e) refl refl refl refl (stays x i) (a.links x i)
+  link_agrees x i = link_carried w w' r r cl cl x [] [] (λ fv e. follower (consumer_node x) x.consumer.dialed.vb fv e) refl refl refl refl refl (stays x i) (a.links x i)
 
   absent : (m q : ℕ) → vb_of w' m q ≡ None → vb_of w m q ≡ None
   absent m q none = ⊎_elim (λ e. sym e ∙ none) (λ x. let z : Some x.pv' ≡ None = sym x.after ∙ none in cc) (step.vbs m q)

@@ -8,6 +8,18 @@ use Rattle.transcript_law.proofs.{Words.{Chronicle, after_lines, item_of_change,
 use Rattle.{dcp_consumer.specs.declared.handshake.Dialed.{Dialed}, dcp_producer.specs.declared.desk.Desk.{Desk}, transcript_law.proofs.links.Firsts.{request_frames, first_answers, first_count, set_after, waits_after}}
 use Rattle.transcript_law.specs.{Feeding.{HasOpen}, Undone.{newest}}
 use Rattle.vb_events.specs.declared.event.StreamName.TheVariants.{Link}
+use Rattle.dcp_consumer.specs.Dialing.{flagged}
+use Rattle.dcp_consumer.specs.declared.handshake.Handshake.TheVariants as waiting
+use Rattle.mcbp_dcp.specs.declared.shape.TheConstants.{SUCCESS}
+use Rattle.takeover.specs.GivingUp.{new_give_up}
+use Rattle.takeover.specs.TakingOver.{new_take_over}
+use Rattle.takeover.specs.declared.give_up.GiveStep.TheVariants.{AwaitActive, AwaitPending, End, SendRest, Yield}
+use Rattle.takeover.specs.declared.give_up.GiveUp.{GiveUp}
+use Rattle.takeover.specs.declared.take_over.TakeOver.{TakeOver}
+use Rattle.takeover.specs.declared.take_over.TakeStep.{TakeStep}
+use Rattle.takeover.specs.declared.take_over.TakeStep.TheVariants.{Own, Pend}
+use Rattle.transcript_law.specs.StreamLaws.{IsWholeIf}
+use Rattle.branch_model.specs.Requests.{effective_se}
 use Rattle.{branch_model.specs.Journals.{log_of, place_of}, cluster_model.specs.Clusters.{Disk}, disk_journals.specs.Books.{Book, listed}, durability.specs.Laws.{HasOne}, vb_calls.specs.Shelves.{Shelf}}
 use Rattle.{transcript_law.specs.Chronicles.{ArmKnown, DiskKnown, no_arm, resting}, vb_disk.specs.declared.fuse.Fuse.{Fuse}, vb_types.specs.declared.role.Role.{Role}}
 use Rattle.vb_disk.specs.declared.fuse.Fuse.TheVariants.{Off, Stop, Fail}
@@ -29,15 +41,94 @@ change_frame o vb c = dcp_frame (act_message c c.act) o vb
 abbrev pub items_frames : ℕ → ℕ → List Change → List Frame
 items_frames o vb xs = map (change_frame o vb) xs
 
--- the frame of a stream's end, where that was put
-abbrev pub end_frames : ℕ → ℕ → Bool → List Frame
-end_frames o vb false = []
-end_frames o vb true = dcp_frame (msg.StreamEnd STATE_CHANGED) o vb ∷ []
+-- how far a vBucket is handed over by a link's stream, while the consumer's follows: nothing was stated; pending is on its way; it was taken, and its answer is on its way; that came; the vBucket was given up, and its rest is sent; active is on its way
+pub data Handing : Type 0 where
+  Unstated : Handing
+  Offered : Handing
+  Pended : Handing
+  Due : Handing
+  Ceded : Handing
+  Stated : Handing
 
--- the frames of whole snapshots, the first of which starts there, and each other one where the one before it ended, and of the stream's end
-abbrev pub flight_frames : ℕ → ℕ → Bool → ℕ → List (ℕ × List Change) → List Frame
-flight_frames o vb over start [] = end_frames o vb over
-flight_frames o vb over start (x ∷ more) = dcp_frame (msg.SnapshotMarker start x.0 1) o vb ∷ items_frames o vb x.1 ++ flight_frames o vb over x.0 more
+-- the step of the stream then, of a dial that is for a takeover or not: no stream stands in one in which a state alone is put
+abbrev pub gives_in : Bool → Handing → Option GiveUp
+gives_in takeover Handing.Unstated = if takeover then Some new_give_up else None
+gives_in takeover Handing.Offered = Some (record { step = AwaitPending })
+gives_in takeover Handing.Pended = Some (record { step = AwaitPending })
+gives_in takeover Handing.Due = Some (record { step = Yield })
+gives_in takeover Handing.Ceded = Some (record { step = SendRest })
+gives_in takeover Handing.Stated = Some (record { step = AwaitActive })
+
+-- what the consumer was told last
+abbrev pub taken_in : Handing → TakeOver
+taken_in Handing.Unstated = new_take_over
+taken_in Handing.Offered = new_take_over
+taken_in Handing.Pended = record { last = Some Pend }
+taken_in Handing.Due = record { last = Some Pend }
+taken_in Handing.Ceded = record { last = Some Pend }
+taken_in Handing.Stated = record { last = Some Pend }
+
+-- the stream puts its snapshots, and no state is on its way
+abbrev pub is_sending : Handing → Bool
+is_sending Handing.Unstated = true
+is_sending Handing.Offered = false
+is_sending Handing.Pended = false
+is_sending Handing.Due = false
+is_sending Handing.Ceded = true
+is_sending Handing.Stated = false
+
+-- pending was taken, and nothing was put behind it
+abbrev pub has_pended : Handing → Bool
+has_pended Handing.Unstated = false
+has_pended Handing.Offered = false
+has_pended Handing.Pended = true
+has_pended Handing.Due = true
+has_pended Handing.Ceded = false
+has_pended Handing.Stated = false
+
+-- the state that was put last, as lines tell
+abbrev pub stated_in : Handing → Option Role
+stated_in Handing.Unstated = None
+stated_in Handing.Offered = Some Role.Pending
+stated_in Handing.Pended = Some Role.Pending
+stated_in Handing.Due = Some Role.Pending
+stated_in Handing.Ceded = Some Role.Pending
+stated_in Handing.Stated = Some Role.Active
+
+-- the frame of a state that is on its way
+abbrev pub state_frames : ℕ → ℕ → Handing → List Frame
+state_frames o vb Handing.Unstated = []
+state_frames o vb Handing.Offered = dcp_frame (msg.SetVbucketState Role.Pending) o vb ∷ []
+state_frames o vb Handing.Pended = []
+state_frames o vb Handing.Due = []
+state_frames o vb Handing.Ceded = []
+state_frames o vb Handing.Stated = dcp_frame (msg.SetVbucketState Role.Active) o vb ∷ []
+
+-- the answer to a state, which is on its way
+abbrev pub state_answer : ℕ → Frame
+state_answer o = dcp_frame (msg.StateAnswer SUCCESS) o 0
+
+abbrev pub answers_in : ℕ → Handing → List Frame
+answers_in o Handing.Unstated = []
+answers_in o Handing.Offered = []
+answers_in o Handing.Pended = state_answer o ∷ []
+answers_in o Handing.Due = []
+answers_in o Handing.Ceded = []
+answers_in o Handing.Stated = []
+
+-- the frame of a stream's end with this reason, where that was put
+abbrev pub end_frames : ℕ → ℕ → ℕ → Bool → List Frame
+end_frames o vb why false = []
+end_frames o vb why true = dcp_frame (msg.StreamEnd why) o vb ∷ []
+
+-- what is behind the snapshots: a state, and the stream's end, which comes of a change of role while the consumer follows
+abbrev pub tail_frames : ℕ → ℕ → Handing → Bool → List Frame
+tail_frames o vb h over = state_frames o vb h ++ end_frames o vb STATE_CHANGED over
+
+-- the frames of whole snapshots, the first of which starts there, and each other one where the one before it ended, and of what is behind them
+abbrev pub flight_frames : ℕ → ℕ → List Frame → ℕ → List (ℕ × List Change) → List Frame
+flight_frames o vb tail start [] = tail
+flight_frames o vb tail start (x ∷ more) = dcp_frame (msg.SnapshotMarker start x.0 1) o vb ∷ items_frames o vb x.1 ++ flight_frames o vb tail x.0 more
 
 -- what is to come of the snapshot that the consumer is in
 abbrev pub coming_items : Option (List Change) → List Change
@@ -71,25 +162,50 @@ marker_start true p = p.se
 marker_start false p = fork_of p
 
 -- all frames of a stream that its consumer has not taken yet
-abbrev pub stream_frames : ℕ → ℕ → Bool → Bool → Position → Option (List Change) → List (ℕ × List Change) → List Frame
-stream_frames o vb over in_one p coming flight = items_frames o vb (coming_items coming) ++ flight_frames o vb over (marker_start in_one p) flight
+abbrev pub stream_frames : ℕ → ℕ → List Frame → Bool → Position → Option (List Change) → List (ℕ × List Change) → List Frame
+stream_frames o vb tail in_one p coming flight = items_frames o vb (coming_items coming) ++ flight_frames o vb tail (marker_start in_one p) flight
 
 -- the last snapshot that a stream's lines tell of is the one that its producer took last, of which so many items were put
 abbrev pub BegunAgrees : Option Begun → PlainStream → Type 0
 BegunAgrees None stream = stream.items ≡ []
 BegunAgrees (Some b) stream = Covers stream.items b.history b.from b.end × (b.items ≡ map item_of_change (take stream.next stream.items))
 
--- a stream that no change of role ended is open at its producer's vBucket, which is active on the stream's branch u
-pub record OpenAt (id : ℕ) (ask : StreamAsk) (place : ℕ) (begun : Bool) (pv : Option Plain) (leader : Member) (u : ℕ) : Type 0 where
+-- the vBucket that feeds it was given up for it, at the last seqno of its branch
+pub record GivenUp (role : Role) (leader : Member) (given : Option ℕ) : Type 0 where
+  pub dead : role ≡ Role.Dead
+  pub at_tip : fork_of leader.position ≡ leader.position.at
+  pub given_there : given ≡ Some leader.position.at
+
+-- the vBucket that feeds a stream is active until it is given up for it
+abbrev pub FeederIn : Handing → Role → Member → Option ℕ → Type 0
+FeederIn Handing.Unstated role leader given = is_active role ≡ true
+FeederIn Handing.Offered role leader given = is_active role ≡ true
+FeederIn Handing.Pended role leader given = is_active role ≡ true
+FeederIn Handing.Due role leader given = is_active role ≡ true
+FeederIn Handing.Ceded role leader given = GivenUp role leader given
+FeederIn Handing.Stated role leader given = GivenUp role leader given
+
+-- a stream that no change of role ended is open at its producer's vBucket, which is active on the stream's branch u, or was given up for it; that reaches what the request means, before a snapshot is begun
+pub record OpenAt (id : ℕ) (ask : StreamAsk) (place : ℕ) (begun : Bool) (pv : Option Plain) (leader : Member) (u : ℕ) (h : Handing) (given : Option ℕ) : Type 0 where
   pub producer : Plain
   pub producer_is : pv ≡ Some producer
-  pub active : is_active producer.role ≡ true
+  pub active : FeederIn h producer.role leader given
   pub leads : leader.br ≡ u
   pub opened : (s : Stream) × (stream_at id producer.streams ≡ Some s) × (s.ask ≡ ask) × (s.sync ≡ true) × (s.place ≡ place) × (s.taken ≡ begun)
+  pub reached : begun ≡ false → effective_se ask.start ask.ss ask.se ≤ leader.position.at
 
 -- so it is of one that was granted, under its number
-abbrev pub Open : ℕ → Granted → Option Plain → Member → Feed → Type 0
-Open id g pv leader feed = OpenAt id g.ask g.place (is_some g.last) pv leader feed.u
+abbrev pub Open : ℕ → Granted → Option Plain → Member → Feed → Handing → Type 0
+Open id g pv leader feed h = OpenAt id g.ask g.place (is_some g.last) pv leader feed.u h feed.given
+
+-- the branch was given up for a consumer exactly from then on; and once active was stated, all up to there was sent
+abbrev pub GivenIn : Handing → Option ℕ → ℕ → Type 0
+GivenIn Handing.Unstated given place = given ≡ None
+GivenIn Handing.Offered given place = given ≡ None
+GivenIn Handing.Pended given place = given ≡ None
+GivenIn Handing.Due given place = given ≡ None
+GivenIn Handing.Ceded given place = (n : ℕ) × (given ≡ Some n)
+GivenIn Handing.Stated given place = given ≡ Some place
 
 -- the greatest seqno
 abbrev pub top : ℕ
@@ -100,11 +216,10 @@ abbrev pub IsLow : Option ℕ → Type 0
 IsLow None = Unit {0}
 IsLow (Some end) = end ≤ top
 
--- a stream was asked for with an end that no seqno reaches, and for no takeover
+-- a stream was asked for with an end that no seqno reaches
 pub record IsEndless (stream : PlainStream) : Type 0 where
   pub until : top < stream.until
   pub marked : IsLow stream.marked
-  pub gives : stream.gives ≡ None
 
 -- a stream of the vBucket vb as its producer keeps it: it is the one that the lines tell, and of the branch that its consumer's member is fed with
 pub record PutAgrees (o vb : ℕ) (log : List LogEntry) (begun : Option Begun) (stream : PlainStream) (u : ℕ) (fed : List LogEntry) : Type 0 where
@@ -128,10 +243,12 @@ pub record WayIs (place : ℕ) (told : List (ℕ × ℕ)) (begun : Bool) (flight
   pub in_flight : in_one ≡ false → flight ≡ [] → begun ≡ false
 
 -- a stream that was let continue: what the lines tell of it, what its producer keeps of it, and what its consumer has of it
-pub record StreamAgrees (o vb : ℕ) (g : Granted) (stream : PlainStream) (pv : Option Plain) (leader : Member) (feed : Feed) (kn : Member) (in_one : Bool) : Type 0 where
+pub record StreamAgrees (o vb : ℕ) (g : Granted) (stream : PlainStream) (pv : Option Plain) (leader : Member) (feed : Feed) (kn : Member) (in_one : Bool) (h : Handing) : Type 0 where
   pub put : PutAgrees o vb g.log g.last stream feed.u feed.log
   pub open put use *
-  pub opens : stream.ended ≡ false → Open stream.id g pv leader feed
+  pub opens : stream.ended ≡ false → Open stream.id g pv leader feed h
+  pub given_in : GivenIn h feed.given g.place
+  pub all_taken : has_pended h ≡ true → (feed.flight ≡ []) × (coming_items kn.coming ≡ [])
   pub over_ended : g.over ≡ true → stream.ended ≡ true
   pub coming : ComingIs g.coming stream feed.flight kn.coming
   pub way : WayIs g.place g.marks (is_some g.last) feed.flight kn in_one
@@ -160,6 +277,10 @@ pub record ConsumerIs (end : PlainConsumer) (seen : ℕ) : Type 0 where
   pub waits : end.handshake ≡ waits_after end.dialed seen
   pub small : end.asked < 2 ^ 32
 
+-- a consumer that was told no state yet
+abbrev pub IsUntold : PlainConsumer → Type 0
+IsUntold end = end.taking ≡ new_take_over
+
 -- what a consumer's vBucket asks by, and whether its next marker is the first one of a stream
 pub record Wants : Type 0 where
   pub log : List LogEntry
@@ -177,7 +298,8 @@ pub record AskingAt (fv : Wants) (ask : StreamAsk) (set : Handshake) (asker : Pl
   pub not_more : seen ≤ answered
   pub server : set ≡ set_after asker.dialed answered
   pub consumer : ConsumerIs asker seen
-  pub asks : ask ≡ request_of fv.log fv.position
+  pub asks : ask ≡ flagged asker.dialed.takeover (request_of fv.log fv.position)
+  pub untold : IsUntold asker
   pub asked_is : up ≡ drop answered (request_frames asker.asked asker.dialed ask)
   pub said_is : down ≡ drop seen (take answered (first_answers asker.dialed))
 
@@ -209,6 +331,7 @@ pub record RefusedAt (point : Option ℕ) (set : Handshake) (asker : PlainConsum
   pub not_more : seen ≤ first_count asker.dialed
   pub server : set ≡ set_after asker.dialed (first_count asker.dialed)
   pub consumer : ConsumerIs asker seen
+  pub untold : IsUntold asker
   pub asked_is : up ≡ []
   pub said_is : down ≡ drop seen (first_answers asker.dialed) ++ answer_frame asker.asked [] said ∷ []
 
@@ -235,6 +358,18 @@ IsBytesAcknowledgement o f = (bytes : ℕ) × (f ≡ dcp_frame (msg.BufferAcknow
 abbrev pub IsAcknowledgement : List ℕ → ℕ → ℕ → Frame → Type 0
 IsAcknowledgement wrote o vb f = IsSeqnoAcknowledgement wrote o vb f ⊎ IsBytesAcknowledgement o f
 
+-- what a consumer with a stream has on its way up: acknowledgements, and answers to states
+abbrev pub IsUpward : List ℕ → ℕ → ℕ → Frame → Type 0
+IsUpward wrote o vb f = IsAcknowledgement wrote o vb f ⊎ (f ≡ state_answer o)
+
+abbrev pub is_state_answer : Frame → Bool
+is_state_answer f = f.magic == RESPONSE && f.opcode == 0x5b
+
+-- of the frames on their way up these are answers to states
+pub record UpwardIs (wrote : List ℕ) (o vb : ℕ) (answers up : List Frame) : Type 0 where
+  pub each : All (IsUpward wrote o vb) up
+  pub answers_are : filter is_state_answer up ≡ answers
+
 -- the answer to an acknowledgement that was refused, which its consumer drops
 abbrev pub is_refused_ack : Frame → Bool
 is_refused_ack f = f.magic == RESPONSE && f.opcode == 0x61
@@ -250,20 +385,27 @@ pub record Serving (served : PlainProducer) (o : ℕ) (d : Dialed) (over : Bool)
   pub numbered : stream.id ≤ served.desk.base * 2 ^ 32 + served.asked
   pub apart : served.desk.node ≡ d.node → ⊥
   pub server : ServerIs served d (first_count d)
-  pub acks : All (IsAcknowledgement wrote o d.vb) up
+  pub handing : Handing
+  pub gives_is : stream.gives ≡ gives_in d.takeover handing
+  pub dialed_so : d.takeover ≡ false → handing ≡ Handing.Unstated
+  pub acks : UpwardIs wrote o d.vb (answers_in o handing) up
   pub unput : List Frame
   pub unput_is : unput ≡ items_frames o d.vb (drop stream.next stream.items)
   pub all_put : over ≡ true → unput ≡ []
+  pub stated_behind : is_sending handing ≡ false → unput ≡ []
 
 -- a consumer has taken so many of the answers that the one that granted its stream is among them
 abbrev pub is_granted : Dialed → ℕ → Bool
 is_granted d seen = nat_lt (first_count d) seen
 
--- its consumer's end: until it takes the answer that granted it, its vBucket asks for the same
-pub record Taking (fv : Wants) (coming : Option (List Change)) (asker : PlainConsumer) (ask : StreamAsk) (seen : ℕ) : Type 0 where
+-- its consumer's end: until it takes the answer that granted it, its vBucket asks for the same; and it was told of the states that it took
+pub record Taking (fv : Wants) (coming : Option (List Change)) (asker : PlainConsumer) (ask : StreamAsk) (seen : ℕ) (h : Handing) : Type 0 where
   pub not_more : seen ≤ suc (first_count asker.dialed)
   pub consumer : ConsumerIs asker seen
   pub adopted : is_some coming ≡ is_granted asker.dialed seen
+  pub taken_is : asker.taking ≡ taken_in h
+  pub granted_first : taken_in h ≡ record { last = Some Pend } → is_granted asker.dialed seen ≡ true
+  pub flag_is : asker.dialed.takeover ≡ true → ask.flags ≡ 1
   pub asks : (is_granted asker.dialed seen && not fv.first) ≡ false → (ask.start ≡ fv.position.at) × (ask.ss ≡ fv.position.ss) × (ask.se ≡ fv.position.se)
 
 -- a failover log that goes with an answer
@@ -282,23 +424,72 @@ pub record Streaming (fv : Wants) (kn : Member) (pv : Option Plain) (leader : Me
   pub log_fits : LogFits feed.log
   pub open log_fits use *
   pub seen : ℕ
-  pub taking : Taking fv kn.coming asker granted_is.ask seen
+  pub taking : Taking fv kn.coming asker granted_is.ask seen serving.handing
   pub open taking use *
-  pub streams : StreamAgrees asker.asked asker.dialed.vb granted_is serving.stream pv leader feed kn (is_granted asker.dialed seen && not fv.first)
+  pub streams : StreamAgrees asker.asked asker.dialed.vb granted_is serving.stream pv leader feed kn (is_granted asker.dialed seen && not fv.first) serving.handing
   pub all : drop seen (first_answers asker.dialed ++ answer_frame asker.asked feed.log ask_answer.Go ∷ [])
-      ++ stream_frames asker.asked asker.dialed.vb granted_is.over (is_granted asker.dialed seen && not fv.first) kn.position kn.coming feed.flight ≡ put ++ serving.unput
+      ++ stream_frames asker.asked asker.dialed.vb (tail_frames asker.asked asker.dialed.vb serving.handing granted_is.over) (is_granted asker.dialed seen && not fv.first) kn.position kn.coming feed.flight ≡ put ++ serving.unput
 
--- where the two ends of a link stand, with these frames on their way to the producer and to the consumer
-pub data EndsStand (fv : Wants) (kn : Member) (pv : Option Plain) (leader : Member) (g : Option Granted) (point : Option ℕ) (served : PlainProducer) (asker : PlainConsumer) (up down : List Frame) : Type 0 where
-  IsAsking : (ask : StreamAsk) → g ≡ None → Asking fv ask served asker up down → EndsStand fv kn pv leader g point served asker up down
-  IsRefusedYet : g ≡ None → RefusedYet point served asker up down → EndsStand fv kn pv leader g point served asker up down
-  IsStreaming : Streaming fv kn pv leader g served asker up down → EndsStand fv kn pv leader g point served asker up down
+-- once the consumer's vBucket took its branch over: whether the answer to that came, and what the reason of the stream's end is, by whether a change of role ended the stream
+abbrev pub heir_step : Bool → GiveUp
+heir_step answered = if answered then record { step = End } else record { step = AwaitActive }
+
+abbrev pub heir_answers : ℕ → Bool → List Frame
+heir_answers o answered = if answered then [] else state_answer o ∷ []
+
+abbrev pub end_reason : Bool → ℕ
+end_reason ended = if ended then STATE_CHANGED else 0
+
+-- the stream is open yet at the vBucket, which was given up
+pub record OpenYet (id : ℕ) (pv : Option Plain) : Type 0 where
+  pub producer : Plain
+  pub producer_is : pv ≡ Some producer
+  pub dead : producer.role ≡ Role.Dead
+  pub opened : (s : Stream) × (stream_at id producer.streams ≡ Some s)
+
+-- The consumer's vBucket took its branch over by this link: nothing is to come but the stream's end. The vBucket may change as it likes; no member is fed by the link any more
+pub record Heir (pv : Option Plain) (g : Option Granted) (served : PlainProducer) (asker : PlainConsumer) (up put : List Frame) : Type 0 where
+  pub granted_is : Granted
+  pub told : g ≡ Some granted_is
+  pub stream : PlainStream
+  pub stream_is : served.streams ≡ kept_stream granted_is.over stream
+  pub vb_is : stream.vb ≡ asker.dialed.vb
+  pub opaque_is : stream.opaque ≡ asker.asked
+  pub numbered : stream.id ≤ served.desk.base * 2 ^ 32 + served.asked
+  pub apart : served.desk.node ≡ asker.dialed.node → ⊥
+  pub whole : length stream.items ≤ stream.next
+  pub last : IsWholeIf granted_is.last
+  pub server : ServerIs served asker.dialed (first_count asker.dialed)
+  pub answered : Bool
+  pub gives_is : stream.gives ≡ Some (heir_step answered)
+  pub for_takeover : asker.dialed.takeover ≡ true
+  pub flag_is : granted_is.ask.flags ≡ 1
+  pub owns : asker.taking ≡ record { last = Some Own }
+  pub granted : asker.handshake ≡ waiting.Streaming
+  pub small : asker.asked < 2 ^ 32
+  pub acks : UpwardIs granted_is.wrote asker.asked asker.dialed.vb (heir_answers asker.asked answered) up
+  pub over_done : granted_is.over ≡ true → stream.ended ≡ false → answered ≡ true
+  pub opens : stream.ended ≡ false → granted_is.over ≡ false → OpenYet stream.id pv
+  pub none_marked : granted_is.marks ≡ []
+  pub none_coming : granted_is.coming ≡ []
+  pub end_is : put ≡ end_frames asker.asked asker.dialed.vb (end_reason stream.ended) granted_is.over
+
+-- lines tell of no stream, and of no state
+abbrev pub IsUnsaid : Option Granted → Option Role → Type 0
+IsUnsaid g said = (g ≡ None) × (said ≡ None)
+
+-- where the two ends of a link stand, with these frames on their way to the producer and to the consumer; `said` is the state that lines tell of last
+pub data EndsStand (fv : Wants) (kn : Member) (pv : Option Plain) (leader : Member) (g : Option Granted) (said : Option Role) (point : Option ℕ) (served : PlainProducer) (asker : PlainConsumer) (up down : List Frame) : Type 0 where
+  IsAsking : (ask : StreamAsk) → IsUnsaid g said → Asking fv ask served asker up down → EndsStand fv kn pv leader g said point served asker up down
+  IsRefusedYet : IsUnsaid g said → RefusedYet point served asker up down → EndsStand fv kn pv leader g said point served asker up down
+  IsStreaming : (x : Streaming fv kn pv leader g served asker up down) → said ≡ stated_in x.serving.handing → EndsStand fv kn pv leader g said point served asker up down
+  IsHeir : Heir pv g served asker up down → said ≡ Some Role.Active → EndsStand fv kn pv leader g said point served asker up down
 
 -- the same of a link, and what its queues hold
-pub record Talk (fv : Plain) (kn : Member) (pv : Option Plain) (leader : Member) (g : Option Granted) (point : Option ℕ) (link : PlainLink) (up down : List Frame) : Type 0 where
+pub record Talk (fv : Plain) (kn : Member) (pv : Option Plain) (leader : Member) (g : Option Granted) (said_last : Option Role) (point : Option ℕ) (link : PlainLink) (up down : List Frame) : Type 0 where
   pub asked : List Frame
   pub said : List Frame
-  pub stands : EndsStand (wants_of fv) kn pv leader g point link.server link.consumer asked (spoken said)
+  pub stands : EndsStand (wants_of fv) kn pv leader g said_last point link.server link.consumer asked (spoken said)
   pub ups : UpIs link up asked
   pub downs : DownAgrees link down said
 
@@ -314,7 +505,6 @@ pub record DialAgrees (told : Option Dial) (desk : Desk) (d : Dialed) : Type 0 w
   pub dialed : told ≡ Some (record { producer = desk.node; node = d.node; vb = d.vb })
   pub named : desk.stream ≡ Link d.link
   pub small : (d.node < 16) × (d.vb < 1024) × (d.buffer < 2 ^ 32)
-  pub alone : d.takeover ≡ false
 
 -- the last seqno that a consumer acknowledged is the last one that the lines tell of its stream, and 0 where they tell of none
 abbrev pub AckedIs : Option Granted → ℕ → Type 0
@@ -327,15 +517,30 @@ acked_still true f None acked same x = x
 acked_still true f (Some g) acked same x = x ∙ ap newest (sym (same g))
 acked_still false f o acked same x = x
 
+-- the role of a link's vBucket, by what its consumer was told last; one that took its branch over may be given up for another in turn, while the link's end is to come
+abbrev pub FollowsBy : Option TakeStep → Role → Type 0
+FollowsBy None role = is_follower role ≡ true
+FollowsBy (Some Pend) role = role ≡ Role.Pending
+FollowsBy (Some Own) role = is_follower role ≡ false
+
+-- while a vBucket is handed over its consumer's follows
+pub follows_in : (h : Handing) (role : Role) → FollowsBy (taken_in h).last role → is_follower role ≡ true
+follows_in Handing.Unstated role f = f
+follows_in Handing.Offered role f = f
+follows_in Handing.Pended role f = ap is_follower f
+follows_in Handing.Due role f = ap is_follower f
+follows_in Handing.Ceded role f = ap is_follower f
+follows_in Handing.Stated role f = ap is_follower f
+
 -- a link whose frames `up` are about to be answered, and whose frames `down` are about to be taken
 pub record LinkAgrees (w : PlainWorld) (r : Chronicle) (c : Cluster) (link : PlainLink) (up down : List Frame) : Type 0 where
   pub follower : Plain
   pub follower_is : vb_of w (consumer_node link) link.consumer.dialed.vb ≡ Some follower
-  pub follows : is_follower follower.role ≡ true
+  pub follows : FollowsBy link.consumer.taking.last follower.role
   pub dial : DialAgrees (r.dial_of (link_number link)) link.server.desk link.consumer.dialed
   pub open dial use *
   pub acks : AckedIs (r.stream_of (Link (link_number link)) link.consumer.dialed.vb) link.consumer.acked
-  pub talk : Talk follower (c.nodes (consumer_seat link)) (vb_of w (producer_node link) link.consumer.dialed.vb) (c.nodes (producer_seat link)) (r.stream_of (Link (link_number link)) link.consumer.dialed.vb) (r.point_of (link_number link)) link up down
+  pub talk : Talk follower (c.nodes (consumer_seat link)) (vb_of w (producer_node link) link.consumer.dialed.vb) (c.nodes (producer_seat link)) (r.stream_of (Link (link_number link)) link.consumer.dialed.vb) (r.stated_of (link_number link)) (r.point_of (link_number link)) link up down
 
 -- one of the links
 abbrev pub IsLink : PlainLink → List PlainLink → Type 0

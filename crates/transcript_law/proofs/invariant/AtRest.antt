@@ -1,6 +1,6 @@
 -- no line leaves a vBucket more to commit
 use Rattle.std.specs.Prelude.{◌≡◌, ◌∷◌, if◌then◌else◌}
-use Rattle.transcript_law.proofs.Words.{Outcome, ℕ, List, [], subst, sym, ap, ◌∙◌, refl, inl, inr, Frame, Bool, true, false, not, Option, Some, None, is_some, Cause, Role, Act, Change, Plain, VbCall, VbReply, plain_step, after, after_job, Prog, Job, min}
+use Rattle.transcript_law.proofs.Words.{Outcome, ℕ, List, [], subst, sym, ap, ◌∙◌, refl, inl, inr, ⊎_elim, Frame, Bool, true, false, not, Option, Some, None, is_some, Cause, Role, Act, Change, Plain, VbCall, VbReply, plain_step, after, after_job, Prog, Job, min}
 use Rattle.transcript_law.proofs.Words.{States, row_at, end_closed, Told, PlainLink, LinkResult, link_number, consumer_node, up_at, AdminCall, AdminResult, own_link, cut_off, links_ended, called_at, admin_line, with_ended, turned_if, no_node, turned_after}
 use Rattle.transcript_law.proofs.Words.{role_outcome, PlainNode, PlainWorld, with_node_at, done, refusal, first_cause, refused_or, node_outcome, on_node, with_states}
 use Rattle.transcript_law.proofs.Words.{bytes_if, bytes_at, on_link, vb_in, is_active, is_follower, is_answerable, marker_fits, marked_vb, is_next, quiet_reply, refusal_reply, new_vb, Sound, Chronicle, take}
@@ -13,7 +13,7 @@ use Rattle.dcp_consumer.specs.declared.handshake.Dialed.{Dialed}
 use Rattle.disk_journals.specs.{Arms.{opens_all}, Books.{Book}}
 use Rattle.durability.specs.Chains.{Links, Members, is_chain}
 use Rattle.journal_points.specs.Points.{saved}
-use Rattle.node_core.proofs.Conduct.{bytes_follow}
+use Rattle.node_core.proofs.Conduct.{bytes_follow, others_stay}
 use Rattle.node_core.specs.Admin.{admin_job, admin_refused}
 use Rattle.node_core.specs.Clients.{PlainClient, client_fed, client_posted, client_pulled}
 use Rattle.node_core.specs.Conduct.{FollowsAt, IsFollowing, KeepsLink, RollsAt}
@@ -31,6 +31,7 @@ use Rattle.node_world.specs.declared.arm.Fired.{Fired}
 use Rattle.node_world.specs.declared.arm.Fired.TheVariants as fired
 use Rattle.node_world.specs.declared.script_node.TheConstants.{MAX_CLIENTS}
 use Rattle.transcript_law.proofs.Words.{eq-eqb, length}
+use Rattle.std.proofs.lemmas.Bool.{cases_eq}
 use Rattle.vb_calls.specs.Following.{completed_act, receive_as, rolled_vb}
 use Rattle.vb_calls.specs.Shelves.{Shelves}
 use Rattle.vb_calls.specs.State.{pending_of}
@@ -88,7 +89,7 @@ module _ (vb : Plain) where
   received None c = refl
   received (Some a) c = refl
 
-aside_rests : (vb : Plain) (made : VbCall) → IsAside made → RestsIf vb → RestsIf (plain_step vb made).0
+pub aside_rests : (vb : Plain) (made : VbCall) → IsAside made → RestsIf vb → RestsIf (plain_step vb made).0
 aside_rests vb (call.CloseStream id) k rest = rest
 aside_rests vb (call.Adopt log) k rest =
     moved vb (is_follower vb.role) (is_answerable log) (record vb { log = log; first = true }, quiet_reply answer.Done) (vb, refusal_reply status.Einval) (refusal_reply status.NotMyVbucket) refl refl refl rest
@@ -104,14 +105,28 @@ aside_rests vb call.Due k rest = rest
 aside_rests vb call.Stat k rest = rest
 aside_rests vb other k rest = absurd k
 
-pub down_rests : (w : PlainWorld) (l wanted : ℕ) → ((link : PlainLink) → row_at link_number l w.links ≡ Some link → link.consumer.dialed.takeover ≡ false) → InWorld RestsIf w → InWorld RestsIf (down_outcome w l (row_at link_number l w.links) (on_link w l consumer_node (down_in wanted))).0
-down_rests w l wanted alone all = by (row_at link_number l w.links)
+-- what the vBucket that a link is to take over comes to in a `down` has no more to commit, where it is active then
+abbrev pub OwnsSettled : PlainWorld → ℕ → ℕ → Type 0
+OwnsSettled w l wanted = (link : PlainLink) (node : PlainNode) (vb : Plain) → row_at link_number l w.links ≡ Some link → w.nodes (consumer_node link) ≡ Some node → link.consumer.dialed.takeover ≡ true → (down_in wanted link node).0.vbs link.consumer.dialed.vb ≡ Some vb → RestsIf vb
+
+pub down_rests : (w : PlainWorld) (l wanted : ℕ) → OwnsSettled w l wanted → InWorld RestsIf w → InWorld RestsIf (down_outcome w l (row_at link_number l w.links) (on_link w l consumer_node (down_in wanted))).0
+down_rests w l wanted owned all = by (row_at link_number l w.links)
   where
-    came : InWorld RestsIf (on_link w l consumer_node (down_in wanted)).0
-    came = on_link_found RestsIf IsAside aside_rests (λ id. tt) w l consumer_node (down_in wanted) all (λ link node found e there.
+    -- a link that follows alone has its vBucket follow; one for a takeover leaves the other vBuckets
+    each : (link : PlainLink) (node : PlainNode) → row_at link_number l w.links ≡ Some link → w.nodes (consumer_node link) ≡ Some node → AllAt RestsIf node.vbs → (b : Bool) → link.consumer.dialed.takeover ≡ b → AllAt RestsIf (down_in wanted link node).0.vbs
+    each link node found e there false alone =
         let d = link.consumer.dialed in let x = placed d.vb node in
-        ran_job RestsIf IsAside aside_rests (λ id. tt) (FollowsAt d) (RollsAt d) (KeepsLink (untold (dial_of link))) (λ m made f. aside d m made (alone link found) f) (dial_bytes (take (moved_len wanted link.down) link.down) (dial_of link)) x.vbs x.shelves
-        (bytes_follow (take (moved_len wanted link.down) link.down) (dial_of link)) there)
+        ran_job RestsIf IsAside aside_rests (λ id. tt) (FollowsAt d) (RollsAt d) (KeepsLink (untold (dial_of link))) (λ m made f. aside d m made alone f) (dial_bytes (take (moved_len wanted link.down) link.down) (dial_of link)) x.vbs x.shelves
+        (bytes_follow (take (moved_len wanted link.down) link.down) (dial_of link)) there
+    each link node found e there true takes = λ q vb is.
+        let d = link.consumer.dialed in let x = placed d.vb node in let piece : List ℕ = take (moved_len wanted link.down) link.down in
+        ⊎_elim
+        (λ same. owned link node vb found e takes (subst (λ m. (down_in wanted link node).0.vbs m ≡ Some vb) same is))
+        (λ other. there q vb (sym (others_stay piece (dial_of link) x.vbs x.shelves q other).0 ∙ is))
+        (cases_eq q d.vb)
+
+    came : InWorld RestsIf (on_link w l consumer_node (down_in wanted)).0
+    came = on_link_found RestsIf IsAside aside_rests (λ id. tt) w l consumer_node (down_in wanted) all (λ link node found e there. each link node found e there link.consumer.dialed.takeover refl)
 
     by : (o : Option PlainLink) → InWorld RestsIf (down_outcome w l o (on_link w l consumer_node (down_in wanted))).0
     by None = came
@@ -230,7 +245,7 @@ up_still n wanted link node ranged all =
 -- ---- changes of role
 
 -- outcomes that are posted at the node n
-posts_in_still : (n : ℕ) (rs : List Resolved) (o : Outcome) → IsRanged o.0 → InWorld Still o.0 → InWorld Still (posted_in n rs o).0
+pub posts_in_still : (n : ℕ) (rs : List Resolved) (o : Outcome) → IsRanged o.0 → InWorld Still o.0 → InWorld Still (posted_in n rs o).0
 posts_in_still n rs o ranged all = by (o.0.nodes n) (ranged n) (all n)
   where
     by : (k : Option PlainNode) → NodeRangedIf n k → AllIn Still k → InWorld Still (posted_at n rs o.0 o.1 k).0

@@ -1,5 +1,5 @@
 -- what holds besides in a sound cluster holds at its start and after each move
-use Rattle.std.proofs.Common.{◌≡◌, ℕ, ◌<◌, ◌≤◌, ◌+◌, Bool, true, false, cond, List, [], ◌∷◌, eqb, refl, sym, subst, ⊎_elim, arith}
+use Rattle.std.proofs.Common.{◌≡◌, inl, ℕ, ◌<◌, ◌≤◌, ◌+◌, Bool, true, false, cond, List, [], ◌∷◌, eqb, refl, sym, subst, ⊎_elim, arith}
 use Rattle.std.specs.Prelude.{Option, Some, None}
 use Rattle.std.proofs.lemmas.Bool.{eqb-true}
 use Rattle.vb_types.specs.declared.change.Change.{Change}
@@ -17,8 +17,9 @@ use Rattle.branch_model.specs.Snapshots.{IsComplete}
 use Rattle.branch_model.specs.Trees.{Shared, hist}
 use Rattle.cluster_model.specs.Clusters.{Cluster, Comes, Disk, Feed, Ground, Linked, May, Member, Move, Told, adopted, appended, ceded, ground, happens, loaded, marked_by, marked_member, member_reach, opened, owned, promoted, put, received, rolled, spanned, spanned_by, start, yielded}
 use Rattle.cluster_model.specs.Clusters as cluster
-use Rattle.cluster_model.proofs.Carrying.{upto_push}
-use Rattle.cluster_model.proofs.Keeping.{put_all}
+use Rattle.cluster_model.proofs.Carrying.{stands_unlinked, upto_push}
+use Rattle.cluster_model.proofs.Fitting.{kept_unlinked}
+use Rattle.cluster_model.proofs.Keeping.{node_sound, put_all}
 use Rattle.cluster_model.proofs.Runs as runs
 use Rattle.transcript_law.proofs.invariant.Bounded.{Allows, Bounded, Reads, SoundCluster, appended_bounded, at_capped, broken_bounded, put_here, reads_moved, rolled_reads, taken_bounded, turned_bounded, may_of, weighs_upto}
 
@@ -166,6 +167,19 @@ tips_moved top w (Move.Rise k) s m = s.tips_capped
 
 pub keeps : (top : ℕ) (w : Cluster) (e : Move) → SoundCluster top w → Allows top w e → SoundCluster top (happens w e)
 keeps top w e s m = let may = may_of top w e m in record { still = runs.keeps top w e s.still may; bounded = moves top w e s m; tips_capped = tips_moved top w e s may }
+
+-- also an active member may be cut off
+pub cut_sound : (top : ℕ) (w : Cluster) (k : ℕ) → SoundCluster top w → SoundCluster top (happens w (Move.Cut k))
+cut_sound top w k s =
+    let n = w.nodes k in
+    record {
+      still = node_sound top w k (cluster.cut n) (w.disks k) s.still (stands_unlinked (ground w) n n.active (s.stands k)) (kept_unlinked (ground w) n (w.disks k) n.active None None (s.kept k))
+          (λ active. let x = s.leads k active in record { ss_at = x.ss_at; se_at = x.se_at; tip = x.tip; front = x.front; falls = x.falls })
+          (λ u x. ⊎_elim (λ writes. inl writes) (λ right. absurd right.1) x)
+          (λ u m none. absurd none);
+      bounded = put_here top w k s (cluster.cut n) (w.disks k) (turned_bounded top w k s (cluster.cut n) refl (s.bounded k).capped);
+      tips_capped = s.tips_capped;
+    }
 
 -- as it starts
 start_reads : (top : ℕ) → Reads top cluster.fresh []

@@ -3,13 +3,16 @@ use Rattle.std.specs.Prelude.{◌≡◌, ◌⊎◌, ◌<◌, ◌≤◌, ◌+◌,
 use Rattle.transcript_law.proofs.Words.{ℕ, Bool, true, false, List, refl, ap, sym, ◌∙◌, subst, inl, inr, ⊎_elim, Option, Some, None, All, All-cons, All-nil, Frame, Role, Member, Cluster, SoundCluster, Stream, arith}
 use Rattle.transcript_law.proofs.Words.{Plain, is_active, is_follower, stream_at, Sound, row_at, row_put, PlainStream, PlainLink, link_number, producer_node, consumer_node, PlainWorld, is_one_of, Granted, Chronicle}
 use Rattle.transcript_law.proofs.{Words.{Branch, Covers, PlainProducer, PlainConsumer, Begun, item_of_change, map, drop, take, after_end, if◌then◌else◌, eq-eqb, ne_eqb, []}, invariant.Seats.{seat, seat_one}, invariant.Trees.{IsTold}}
-use Rattle.transcript_law.proofs.Words.{HoldsAt}
+use Rattle.transcript_law.proofs.Words.{HoldsAt, is_some}
+use Rattle.transcript_law.proofs.invariant.Holdings.{OpenedAs}
+use Rattle.takeover.specs.declared.take_over.TakeStep.{TakeStep}
 use Rattle.transcript_law.proofs.{invariant.Lefts.{LeftUpTo}, invariant.Wholes.{WholeTo}}
-use Rattle.transcript_law.proofs.invariant.Agreement.{TimesIf, AckedIs, Keeps, VbTold, own_history, vb_of, ChangeFits, BranchAgrees, CountsIf, WritesIf, VbAgrees, IsAway, AgreesAt, RestsIn, IsLow, kept_stream, spoken, Streaming, Talk, consumer_seat, producer_seat, LinkAgrees, IsLink, Differ, LinksDiffer}
-use Rattle.transcript_law.proofs.{invariant.Agreement.{DiskIsIf, shelf_of, top, Busy, AgreesIn, BranchesAgree, Wants, wants_of, EndsStand, Open, BegunAgrees, items_frames, VbRow, vb_row, vb_contents, VbHeld, idle, DialAgrees}, invariant.Carrying.{SameEnds}}
+use Rattle.transcript_law.proofs.invariant.Agreement.{FollowsBy, TimesIf, AckedIs, Keeps, VbTold, own_history, vb_of, ChangeFits, BranchAgrees, CountsIf, WritesIf, VbAgrees, IsAway, AgreesAt, RestsIn, IsLow, kept_stream, spoken, Streaming, Talk, consumer_seat, producer_seat, LinkAgrees, IsLink, Differ, LinksDiffer}
+use Rattle.transcript_law.proofs.{invariant.Agreement.{ClientsTold, DiskIsIf, shelf_of, top, Busy, AgreesIn, BranchesAgree, Wants, wants_of, EndsStand, Open, BegunAgrees, items_frames, VbRow, vb_row, vb_contents, VbHeld, idle, DialAgrees}, invariant.Carrying.{SameEnds}}
 use Rattle.transcript_law.proofs.{invariant.Carrying.{ToldOf, TakenOf, FedMember, FeedChanged, BusyBut, StreamsChanged}, invariant.LinkRows.{found_is_link, links_apart, put_links, differ_put}, invariant.Tables.{id_there, ended_there}}
 use Rattle.{dcp_producer.specs.Producers.{Rising}, transcript_law.proofs.invariant.OpenStreams.{AreKept}, transcript_law.proofs.invariant.ClientsKept.{ConnsKept, Every, FedAreThere, IsFree, clients_kept, fed_there, fewer_streams}, transcript_law.proofs.invariant.LinkFeeds.{feeds_put}, transcript_law.proofs.invariant.Owing.{Fewer, Owed}, transcript_law.specs.Feeding.{HasFed, HasOpen, IsOpenAt}, vb_events.specs.declared.event.StreamName.TheVariants.{Link}, vb_types.specs.declared.role.Role.TheVariants.{Active}}
 pub use Rattle.std.proofs.lemmas.Bool.{cases_eq as numbers}
+pub use Rattle.transcript_law.proofs.invariant.Standing.{SameStream, StaysFollower, StaysProducer, active_feeds, as_far, as_near, feeder_in, feeder_moved, heir_again, heir_feeds, kept_open, left_open, none_open, open_kept, open_left, owns_alone, stands_again, stays_same, stream_same, streaming_again, talk_carried, talk_owned, talk_same}
 use Rattle.transcript_law.proofs.invariant.Owing.{later_same}
 
 -- one place or another
@@ -35,7 +38,7 @@ branches_again {known} {told' = told'} {ids' = ids'} same same_told free a = sub
 
 -- lines that tell nothing of what all agrees on
 pub told_of_same : (l : ℕ) (r : Chronicle) → ToldOf l r r
-told_of_same l r = record { last = later_same _ _ refl refl; tree = refl; writer_of = λ u. refl; rows = λ n v. refl; arms = λ n. refl; clients = λ n c. refl; dials = λ j ne. refl; streams = λ k q ne. refl; points = λ k ne. refl }
+told_of_same l r = record { last = later_same _ _ refl refl; tree = refl; writer_of = λ u. refl; rows = λ n v. refl; arms = λ n. refl; clients = λ n c. refl; dials = λ j ne. refl; streams = λ k q ne. refl; states = λ k ne. refl; points = λ k ne. refl }
 
 -- the end of a link tells of that link
 pub stream_end_lines : (r : Chronicle) (l : ℕ) → ToldOf l r (after_end r l)
@@ -48,6 +51,7 @@ stream_end_lines r l = record {
   clients = λ n c. refl;
   dials = λ j ne. id_there r.dial_of l None j (λ e. ne (sym e));
   streams = λ j q ne. ended_there r l j q ne;
+  states = λ j ne. id_there r.stated_of l None j (λ e. ne (sym e));
   points = λ j ne. id_there r.point_of l None j (λ e. ne (sym e));
 }
 
@@ -144,7 +148,7 @@ module _ (r r' : Chronicle) (n v : ℕ) (m m' : Member) (told : ToldAt r r' n v)
       holds = subst (λ h. HoldsAt 0 (WholeTo vb.floor vb.spans vb.position) h (own_history r n v)) (sym fed.held) a.holds;
     }));
     role = ap (λ (t : VbRow). t.role) told.row ∙ a.role;
-    opened = ap (λ (t : VbRow). t.opened) told.row ∙ a.opened;
+    opened = subst (λ (t : VbRow). OpenedAs vb.role t.opened (is_some vb.spans.current)) (sym told.row) a.opened;
     writes = writes_carried (is_active vb.role) a.writes;
     counts = subst (λ (t : VbRow). CountsIf (is_active vb.role) t.counts vb.others vb.acks) (sym told.row) a.counts;
     lefts = subst (λ (t : VbRow). is_active vb.role ≡ true → LeftUpTo t.counts.risen vb.position.at vb.waiting) (sym told.row) a.lefts;
@@ -162,159 +166,83 @@ module _ (r r' : Chronicle) (n v : ℕ) (m m' : Member) (told : ToldAt r r' n v)
 pub sound_streams : (vb : Plain) (streams : List Stream) → Sound vb → Sound (record vb { streams = streams })
 sound_streams vb streams s = record { spanned = s.spanned; placed = s.placed; stamped = s.stamped; based = s.based; saved = s.saved; counted = s.counted }
 
--- what stays of a producer's vBucket and member for a link with an open stream
-abbrev pub StaysProducer : Option Plain → Option Plain → Member → Member → PlainLink → Type 0
-StaysProducer pv pv' leader leader' link = (p : Plain) (id : ℕ) (s : Stream) → pv ≡ Some p → is_active p.role ≡ true → stream_at id p.streams ≡ Some s → HasOpen link.consumer.dialed.vb id link.server.streams
-    → (p' : Plain) × (pv' ≡ Some p') × (is_active p'.role ≡ true) × (stream_at id p'.streams ≡ Some s) × (leader'.br ≡ leader.br)
-
-pub stays_same : (pv : Option Plain) (leader : Member) (link : PlainLink) → StaysProducer pv pv leader leader link
-stays_same pv leader link p id s e a o i = (p, e, a, o, refl)
-
--- a stream that the producer keeps and that has not ended is open
-pub kept_open : (over : Bool) (stream : PlainStream) (streams : List PlainStream) → streams ≡ kept_stream over stream → (over ≡ true → stream.ended ≡ true) → stream.ended ≡ false → HasOpen stream.vb stream.id streams
-kept_open true stream streams e ends ended = let z : true ≡ false = sym (ends refl) ∙ ended in cc
-kept_open false stream streams e ends ended = subst (HasOpen stream.vb stream.id) (sym e) (inl (refl, refl, ended))
-
--- and it is the only one
-pub open_kept : (over : Bool) (stream : PlainStream) (streams : List PlainStream) → streams ≡ kept_stream over stream → (v id : ℕ) → HasOpen v id streams → IsOpenAt v id stream
-open_kept true stream streams e v id has = absurd (subst (HasOpen v id) e has)
-open_kept false stream streams e v id has = ⊎_elim (λ o. o) (λ none. absurd none) (subst (HasOpen v id) e has)
-
--- where there is none, none is open
-pub none_open : {A : Type 0} (streams : List PlainStream) → streams ≡ [] → (v id : ℕ) → HasOpen v id streams → A
-none_open streams e v id has = absurd (subst (HasOpen v id) e has)
-
--- streams that differ in whether they ended at most
-pub record SameStream (x y : PlainStream) : Type 0 where
-  pub id : y.id ≡ x.id
-  pub until : y.until ≡ x.until
-  pub marked : y.marked ≡ x.marked
-  pub vb : y.vb ≡ x.vb
-  pub opaque : y.opaque ≡ x.opaque
-  pub items : y.items ≡ x.items
-  pub next : y.next ≡ x.next
-  pub gives : y.gives ≡ x.gives
-  pub ended : x.ended ≡ true → y.ended ≡ true
-
-pub stream_same : {x : PlainStream} → SameStream x x
-stream_same = record { id = refl; until = refl; marked = refl; vb = refl; opaque = refl; items = refl; next = refl; gives = refl; ended = λ e. e }
-
--- a stream goes on, or has ended now
-pub streaming_again : {fv : Wants} {kn : Member} {pv pv' : Option Plain} {leader leader' : Member} {g : Option Granted} {served : PlainProducer} {asker : PlainConsumer} {up down : List Frame} (a : Streaming fv kn pv leader g served asker up down)
-    (streams : List PlainStream) (stream : PlainStream) → SameStream a.stream stream → streams ≡ kept_stream a.granted_is.over stream → (stream.ended ≡ false → Open stream.id a.granted_is pv' leader' a.feed)
-    → Streaming fv kn pv' leader' g (record served { streams = streams }) asker up down
-streaming_again {served = served} {asker} a streams stream same is opens =
-    let x = a.streams in
-    record {
-      granted_is = a.granted_is;
-      told = a.told;
-      serving = record {
-        stream = stream;
-        stream_is = is;
-        numbered = subst (λ n. n ≤ served.desk.base * 2 ^ 32 + served.asked) (sym same.id) a.numbered;
-        apart = a.apart;
-        server = a.server;
-        acks = a.acks;
-        unput = a.unput;
-        unput_is = a.unput_is ∙ (λ i. items_frames asker.asked asker.dialed.vb (drop (sym same.next i) (sym same.items i)));
-        all_put = a.all_put;
-      };
-      feed = a.feed;
-      fed = a.fed;
-      log_fits = a.log_fits;
-      seen = a.seen;
-      taking = a.taking;
-      streams = record {
-        put = record {
-          vb_is = same.vb ∙ x.vb_is;
-          opaque_is = same.opaque ∙ x.opaque_is;
-          no_end = record { until = subst (λ n. top < n) (sym same.until) x.no_end.until; marked = subst IsLow (sym same.marked) x.no_end.marked; gives = same.gives ∙ x.no_end.gives };
-          fits = subst (All ChangeFits) (sym same.items) x.fits;
-          next_in = rw same.next (rw same.items x.next_in);
-          last = by a.granted_is.last x.last;
-          log_lines = x.log_lines;
-          front_is = x.front_is;
-        };
-        opens = opens;
-        over_ended = λ e. same.ended (x.over_ended e);
-        coming = record { all = rw same.next (rw same.items x.coming.all); last = rw same.items x.coming.last };
-        way = x.way;
-      };
-      all = a.all;
-    }
-  where
-    by : (q : Option Begun) → BegunAgrees q a.stream → BegunAgrees q stream
-    by None e = same.items ∙ e
-    by (Some b) e = (subst (λ xs. Covers xs b.history b.from b.end) (sym same.items) e.0, e.1 ∙ (λ i. map item_of_change (take (sym same.next i) (sym same.items i))))
-
-module _ (kn : Member) (pv pv' : Option Plain) (leader leader' : Member) (g : Option Granted) (point : Option ℕ) (link : PlainLink) (stays : StaysProducer pv pv' leader leader' link) where
-  stands_carried : {fv : Wants} {up down : List Frame} → EndsStand fv kn pv leader g point link.server link.consumer up down → EndsStand fv kn pv' leader' g point link.server link.consumer up down
-  stands_carried (EndsStand.IsAsking ask none a) = EndsStand.IsAsking ask none a
-  stands_carried (EndsStand.IsRefusedYet none a) = EndsStand.IsRefusedYet none a
-  stands_carried (EndsStand.IsStreaming a) = EndsStand.IsStreaming
-      (streaming_again a link.server.streams a.stream stream_same a.stream_is (λ e.
-      let o = a.streams.opens e in
-      let (p', is, active, opened, lead) = stays o.producer a.stream.id o.opened.0 o.producer_is o.active o.opened.1
-      (subst (λ v. HasOpen v a.stream.id link.server.streams) a.streams.vb_is (kept_open a.granted_is.over a.stream link.server.streams a.stream_is a.streams.over_ended e)) in
-      record { producer = p'; producer_is = is; active = active; leads = lead ∙ o.leads; opened = (o.opened.0, opened, o.opened.2, o.opened.3, o.opened.4, o.opened.5) }))
-
-  pub talk_carried : (fv fv' : Plain) (up down : List Frame) → wants_of fv' ≡ wants_of fv → Talk fv kn pv leader g point link up down → Talk fv' kn pv' leader' g point link up down
-  talk_carried fv fv' up down wants t = record {
-    asked = t.asked;
-    said = t.said;
-    stands = subst (λ v. EndsStand v kn pv' leader' g point link.server link.consumer t.asked (spoken t.said)) (sym wants) (stands_carried t.stands);
-    ups = t.ups;
-    downs = t.downs;
-  }
-
--- the ends of a link stand alike where what they speak of is the same
-pub talk_same : {fv : Plain} {kn kn' : Member} {pv pv' : Option Plain} {leader leader' : Member} {g g' : Option Granted} {point point' : Option ℕ} {link : PlainLink} {up down : List Frame}
-    → kn' ≡ kn → pv' ≡ pv → leader' ≡ leader → g' ≡ g → point' ≡ point → Talk fv kn pv leader g point link up down → Talk fv kn' pv' leader' g' point' link up down
-talk_same {fv} {kn' = kn'} {pv} {pv' = pv'} {leader} {leader' = leader'} {g} {g' = g'} {point} {link = link} {up} {down} members vbs leaders granted points t =
-    subst (λ x. Talk fv kn' pv' leader' g' x link up down) (sym points) (subst (λ x. Talk fv kn' pv' leader' x point link up down) (sym granted) (subst (λ x. Talk fv kn' pv' x g point link up down) (sym leaders)
-    (subst (λ x. Talk fv kn' x leader g point link up down) (sym vbs) (subst (λ x. Talk fv x pv leader g point link up down) (sym members) t))))
-
--- a link agrees as before, where all that it speaks of stays
-pub link_carried : (w w' : PlainWorld) (r r' : Chronicle) (c c' : Cluster) (link : PlainLink) (up down : List Frame)
-    → ((fv : Plain) → vb_of w (consumer_node link) link.consumer.dialed.vb ≡ Some fv → (fv' : Plain) × (vb_of w' (consumer_node link) link.consumer.dialed.vb ≡ Some fv') × KeptVb fv fv')
+-- a link agrees as before, where what it speaks of stays
+pub link_carried_by : (w w' : PlainWorld) (r r' : Chronicle) (c c' : Cluster) (link : PlainLink) (up down : List Frame)
+    → StaysFollower (vb_of w (consumer_node link) link.consumer.dialed.vb) (vb_of w' (consumer_node link) link.consumer.dialed.vb) (c.nodes (consumer_seat link)) (c'.nodes (consumer_seat link))
     → r'.dial_of (link_number link) ≡ r.dial_of (link_number link)
     → r'.stream_of (Link (link_number link)) link.consumer.dialed.vb ≡ r.stream_of (Link (link_number link)) link.consumer.dialed.vb
+    → r'.stated_of (link_number link) ≡ r.stated_of (link_number link)
     → r'.point_of (link_number link) ≡ r.point_of (link_number link)
-    → c'.nodes (consumer_seat link) ≡ c.nodes (consumer_seat link)
     → StaysProducer (vb_of w (producer_node link) link.consumer.dialed.vb) (vb_of w' (producer_node link) link.consumer.dialed.vb) (c.nodes (producer_seat link)) (c'.nodes (producer_seat link)) link
     → LinkAgrees w r c link up down → LinkAgrees w' r' c' link up down
-link_carried w w' r r' c c' link up down follower dial stream point member stays a =
-    let (fv', is, kept) = follower a.follower a.follower_is in let pv' = vb_of w' (producer_node link) link.consumer.dialed.vb in
+link_carried_by w w' r r' c c' link up down follower dial stream state point stays a =
+    let (fv', is, either) = follower a.follower a.follower_is in let pv' = vb_of w' (producer_node link) link.consumer.dialed.vb in
     let leader' = c'.nodes (producer_seat link) in
     record {
       follower = fv';
       follower_is = is;
-      follows = ap is_follower kept.role ∙ a.follows;
+      follows = ⊎_elim (λ same. subst (FollowsBy link.consumer.taking.last) (sym same.0) a.follows) (λ feeds. still_owns link.consumer.taking.last a.follower.role fv'.role feeds.0 feeds.1 a.follows) either;
       acks = subst (λ o. AckedIs o link.consumer.acked) (sym stream) a.acks;
       dial = subst (λ o. DialAgrees o link.server.desk link.consumer.dialed) (sym dial) a.dial;
-      talk = talk_same member refl refl stream point (talk_carried (c.nodes (consumer_seat link)) (vb_of w (producer_node link) link.consumer.dialed.vb) pv' (c.nodes (producer_seat link)) leader'
-          (r.stream_of (Link (link_number link)) link.consumer.dialed.vb) (r.point_of (link_number link)) link stays a.follower fv' up down kept.wants a.talk);
+      talk = ⊎_elim
+          (λ same. talk_same same.2 refl refl stream state point (talk_carried (c.nodes (consumer_seat link)) (vb_of w (producer_node link) link.consumer.dialed.vb) pv' (c.nodes (producer_seat link)) leader'
+          (r.stream_of (Link (link_number link)) link.consumer.dialed.vb) (r.stated_of (link_number link)) (r.point_of (link_number link)) link stays a.follower fv' up down same.1 a.talk))
+          (λ feeds. talk_same refl refl refl stream state point (talk_owned (c.nodes (consumer_seat link)) (vb_of w (producer_node link) link.consumer.dialed.vb) pv' (c.nodes (producer_seat link)) leader'
+          (r.stream_of (Link (link_number link)) link.consumer.dialed.vb) (r.stated_of (link_number link)) (r.point_of (link_number link)) link stays a.follower fv' (c'.nodes (consumer_seat link)) up down feeds.0 a.follows a.talk))
+          either;
     }
+  where
+    still_owns : (last : Option TakeStep) (role role' : Role) → is_follower role ≡ false → is_follower role' ≡ false → FollowsBy last role → FollowsBy last role'
+    still_owns None role role' feeds feeds' f = let z : false ≡ true = sym feeds ∙ f in cc
+    still_owns (Some TakeStep.Pend) role role' feeds feeds' f = let z : false ≡ true = sym feeds ∙ ap is_follower f in cc
+    still_owns (Some TakeStep.Own) role role' feeds feeds' f = feeds'
 
--- an open stream of a link is open at its producer's vBucket, which is the one that the link feeds
+-- so it is where all of it does
+pub link_carried : (w w' : PlainWorld) (r r' : Chronicle) (c c' : Cluster) (link : PlainLink) (up down : List Frame)
+    → ((fv : Plain) → vb_of w (consumer_node link) link.consumer.dialed.vb ≡ Some fv → (fv' : Plain) × (vb_of w' (consumer_node link) link.consumer.dialed.vb ≡ Some fv') × KeptVb fv fv')
+    → r'.dial_of (link_number link) ≡ r.dial_of (link_number link)
+    → r'.stream_of (Link (link_number link)) link.consumer.dialed.vb ≡ r.stream_of (Link (link_number link)) link.consumer.dialed.vb
+    → r'.stated_of (link_number link) ≡ r.stated_of (link_number link)
+    → r'.point_of (link_number link) ≡ r.point_of (link_number link)
+    → c'.nodes (consumer_seat link) ≡ c.nodes (consumer_seat link)
+    → StaysProducer (vb_of w (producer_node link) link.consumer.dialed.vb) (vb_of w' (producer_node link) link.consumer.dialed.vb) (c.nodes (producer_seat link)) (c'.nodes (producer_seat link)) link
+    → LinkAgrees w r c link up down → LinkAgrees w' r' c' link up down
+link_carried w w' r r' c c' link up down follower dial stream state point member stays =
+    link_carried_by w w' r r' c c' link up down (λ fv e. let (fv', is, kept) = follower fv e in (fv', is, inl (kept.role, kept.wants, member))) dial stream state point stays
+
+-- an open stream of a link is open at its producer's vBucket, which is the one that the link feeds, and follows nobody
 pub stream_opened : (w : PlainWorld) (r : Chronicle) (c : Cluster) (link : PlainLink) (up down : List Frame) → LinkAgrees w r c link up down → (v id : ℕ) → HasOpen v id link.server.streams
-    → (p : Plain) × (vb_of w (producer_node link) link.consumer.dialed.vb ≡ Some p) × (is_active p.role ≡ true) × (s : Stream) × (stream_at id p.streams ≡ Some s) × (link.consumer.dialed.vb ≡ v)
+    → (p : Plain) × (vb_of w (producer_node link) link.consumer.dialed.vb ≡ Some p) × (is_follower p.role ≡ false) × (s : Stream) × (stream_at id p.streams ≡ Some s) × (link.consumer.dialed.vb ≡ v)
 stream_opened w r c link up down a v id has = by a.talk.stands
   where
-    by : {fv : Wants} {kn : Member} {pv : Option Plain} {leader : Member} {g : Option Granted} {point : Option ℕ} {asked said : List Frame} → EndsStand fv kn pv leader g point link.server link.consumer asked said
-        → (p : Plain) × (pv ≡ Some p) × (is_active p.role ≡ true) × (s : Stream) × (stream_at id p.streams ≡ Some s) × (link.consumer.dialed.vb ≡ v)
+    by : {fv : Wants} {kn : Member} {pv : Option Plain} {leader : Member} {g : Option Granted} {said_last : Option Role} {point : Option ℕ} {asked said : List Frame} → EndsStand fv kn pv leader g said_last point link.server link.consumer asked said
+        → (p : Plain) × (pv ≡ Some p) × (is_follower p.role ≡ false) × (s : Stream) × (stream_at id p.streams ≡ Some s) × (link.consumer.dialed.vb ≡ v)
     by (EndsStand.IsAsking ask none t) = none_open link.server.streams t.no_stream v id has
     by (EndsStand.IsRefusedYet none t) = none_open link.server.streams t.no_stream v id has
-    by (EndsStand.IsStreaming t) =
+    by {leader = leader} (EndsStand.IsStreaming t stated) =
         let is = open_kept t.granted_is.over t.stream link.server.streams t.stream_is v id has in
         let o = t.streams.opens is.2 in
-        (o.producer, o.producer_is, o.active, o.opened.0, subst (λ k. stream_at k o.producer.streams ≡ Some o.opened.0) is.1 o.opened.1, sym t.streams.vb_is ∙ is.0)
+        (o.producer, o.producer_is, feeder_in t.handing o.producer.role leader t.feed.given o.active, o.opened.0, subst (λ k. stream_at k o.producer.streams ≡ Some o.opened.0) is.1 o.opened.1, sym t.streams.vb_is ∙ is.0)
+    by (EndsStand.IsHeir t stated) =
+        let is = open_kept t.granted_is.over t.stream link.server.streams t.stream_is v id has in
+        let o = t.opens is.2 (open_left t.granted_is.over t.stream link.server.streams t.stream_is v id has) in
+        (o.producer, o.producer_is, ap is_follower o.dead, o.opened.0, subst (λ k. stream_at k o.producer.streams ≡ Some o.opened.0) is.1 o.opened.1, sym t.vb_is ∙ is.0)
+
+-- and it is at another node than its consumer
+pub stream_apart : (w : PlainWorld) (r : Chronicle) (c : Cluster) (link : PlainLink) (up down : List Frame) → LinkAgrees w r c link up down → (v id : ℕ) → HasOpen v id link.server.streams → producer_node link ≡ consumer_node link → ⊥
+stream_apart w r c link up down a v id has same = by a.talk.stands
+  where
+    by : {fv : Wants} {kn : Member} {pv : Option Plain} {leader : Member} {g : Option Granted} {said_last : Option Role} {point : Option ℕ} {asked said : List Frame} → EndsStand fv kn pv leader g said_last point link.server link.consumer asked said → ⊥
+    by (EndsStand.IsAsking ask none t) = none_open link.server.streams t.no_stream v id has
+    by (EndsStand.IsRefusedYet none t) = none_open link.server.streams t.no_stream v id has
+    by (EndsStand.IsStreaming t stated) = t.apart same
+    by (EndsStand.IsHeir t stated) = t.apart same
 
 -- each stream that somebody has open is open at its vBucket
 links_there : (busy : Busy) (w : PlainWorld) (r : Chronicle) (c : Cluster) → AgreesIn busy w r c → (l n v id : ℕ) → HasFed w (Link l) n v id → IsFree id (vb_of w n v) → ⊥
 links_there busy w r c a l n v id (link, is, of) free =
     let i = (found_is_link l w.links link is).0 in
-    let (p, there, active, s, opened, at) = stream_opened w r c link (busy (link_number link)).0 (busy (link_number link)).1 (a.links link i) v id of.stream in
+    let (p, there, feeds, s, opened, at) = stream_opened w r c link (busy (link_number link)).0 (busy (link_number link)).1 (a.links link i) v id of.stream in
     let has : vb_of w n v ≡ Some p = ap (λ k. vb_of w k v) (sym of.producer) ∙ ap (vb_of w (producer_node link)) (sym at) ∙ there in
     let none : stream_at id p.streams ≡ None = subst (IsFree id) has free in
     let z : Some s ≡ None = sym opened ∙ none in cc
@@ -339,10 +267,11 @@ link_kept w r c link up down a = by a.talk.stands
       turn = omega arith;
     }
 
-    by : {fv : Wants} {kn : Member} {pv : Option Plain} {leader : Member} {g : Option Granted} {point : Option ℕ} {asked said : List Frame} → EndsStand fv kn pv leader g point link.server link.consumer asked said → AreKept link.server
+    by : {fv : Wants} {kn : Member} {pv : Option Plain} {leader : Member} {g : Option Granted} {said_last : Option Role} {point : Option ℕ} {asked said : List Frame} → EndsStand fv kn pv leader g said_last point link.server link.consumer asked said → AreKept link.server
     by (EndsStand.IsAsking ask is t) = none t.no_stream
     by (EndsStand.IsRefusedYet is t) = none t.no_stream
-    by (EndsStand.IsStreaming t) = one t.stream t.numbered t.granted_is.over t.stream_is
+    by (EndsStand.IsStreaming t stated) = one t.stream t.numbered t.granted_is.over t.stream_is
+    by (EndsStand.IsHeir t stated) = one t.stream t.numbered t.granted_is.over t.stream_is
 
 -- a link between the same ends differs from what it differed from
 pub differ_ends : (link link' y : PlainLink) → SameEnds link link' → Differ link y
@@ -355,16 +284,15 @@ differ_ends link link' y same d streams = record {
 }
 
 -- the parts of a step that changes one link
-pub carried : (busy busy' : Busy) (w w' : PlainWorld) (r r' : Chronicle) (c c' : Cluster) (l : ℕ) (link link' : PlainLink)
+pub carried_by : (busy busy' : Busy) (w w' : PlainWorld) (r r' : Chronicle) (c c' : Cluster) (l : ℕ) (link link' : PlainLink)
     → AgreesIn busy w r c → row_at link_number l w.links ≡ Some link → SameEnds link link'
     → ((n v : ℕ) → AgreesAt r' n v (c'.nodes (seat n v)) (vb_of w' n v)) → ((n v : ℕ) → DiskIsIf (r'.disk_at n v) (c'.disks (seat n v)) (shelf_of w' n v) (vb_of w' n v))
     → c'.tree ≡ c.tree → r'.tree ≡ r.tree → w'.uuids ≡ w.uuids → w'.links ≡ row_put link_number l link' w.links
     → SoundCluster top c' → BusyBut l busy busy'
     → ((x : PlainLink) → IsLink x w.links → Differ link x → LinkAgrees w' r' c' x (busy (link_number x)).0 (busy (link_number x)).1)
     → ((y : PlainLink) → IsLink y w.links → Differ link y → (v id : ℕ) → HasOpen v id link'.server.streams → HasOpen v id y.server.streams → producer_node link ≡ producer_node y → ⊥)
-    → ConnsKept Every w w' r r' → ((v id : ℕ) → HasOpen v id link'.server.streams → HasOpen v id link.server.streams ⊎ IsFree id (vb_of w (producer_node link) v))
-    → RestsIn w' r' c' → LinkAgrees w' r' c' link' (busy' l).0 (busy' l).1 → Owed w' r' → AgreesIn busy' w' r' c'
-carried busy busy' w w' r r' c c' l link link' a found same vbs disks ctree rtree uuids links sound but others streams conns few rests agrees owed = record {
+    → ClientsTold w' r' → RestsIn w' r' c' → LinkAgrees w' r' c' link' (busy' l).0 (busy' l).1 → AgreesIn busy' w' r' c'
+carried_by busy busy' w w' r r' c c' l link link' a found same vbs disks ctree rtree uuids links sound but others streams clients rests agrees = record {
   sound = sound;
   vbs = vbs;
   disks = disks;
@@ -373,7 +301,7 @@ carried busy busy' w w' r r' c c' l link link' a found same vbs disks ctree rtre
   links = λ x i. each x (subst (IsLink x) links i);
   differ = subst LinksDiffer (sym links)
       (differ_put l w.links link link' number a.differ (λ y i ne. let d = apart y i ne in differ_ends link link' y same d (streams y i d)) found);
-  clients = clients_kept w w' r r' l a.clients (all_there busy w r c a) conns (feeds_put w w' l link link' a.differ found same links few) owed;
+  clients = clients;
 }
   where
     is_link : IsLink link w.links × (link_number link ≡ l)
@@ -390,6 +318,19 @@ carried busy busy' w w' r r' c c' l link link' a found same vbs disks ctree rtre
         (λ e. subst (λ k. LinkAgrees w' r' c' k (busy' (link_number k)).0 (busy' (link_number k)).1) (sym e) (subst (λ k. LinkAgrees w' r' c' link' (busy' k).0 (busy' k).1) (sym number) agrees))
         (λ p. subst (λ b. LinkAgrees w' r' c' x b.0 b.1) (sym (but (link_number x) p.1)) (others x p.0 (apart x p.0 p.1)))
         (put_links l w.links link link' x a.differ found number i)
+
+-- so it is where clients are as they were
+pub carried : (busy busy' : Busy) (w w' : PlainWorld) (r r' : Chronicle) (c c' : Cluster) (l : ℕ) (link link' : PlainLink)
+    → AgreesIn busy w r c → row_at link_number l w.links ≡ Some link → SameEnds link link'
+    → ((n v : ℕ) → AgreesAt r' n v (c'.nodes (seat n v)) (vb_of w' n v)) → ((n v : ℕ) → DiskIsIf (r'.disk_at n v) (c'.disks (seat n v)) (shelf_of w' n v) (vb_of w' n v))
+    → c'.tree ≡ c.tree → r'.tree ≡ r.tree → w'.uuids ≡ w.uuids → w'.links ≡ row_put link_number l link' w.links
+    → SoundCluster top c' → BusyBut l busy busy'
+    → ((x : PlainLink) → IsLink x w.links → Differ link x → LinkAgrees w' r' c' x (busy (link_number x)).0 (busy (link_number x)).1)
+    → ((y : PlainLink) → IsLink y w.links → Differ link y → (v id : ℕ) → HasOpen v id link'.server.streams → HasOpen v id y.server.streams → producer_node link ≡ producer_node y → ⊥)
+    → ConnsKept Every w w' r r' → ((v id : ℕ) → HasOpen v id link'.server.streams → HasOpen v id link.server.streams ⊎ IsFree id (vb_of w (producer_node link) v))
+    → RestsIn w' r' c' → LinkAgrees w' r' c' link' (busy' l).0 (busy' l).1 → Owed w' r' → AgreesIn busy' w' r' c'
+carried busy busy' w w' r r' c c' l link link' a found same vbs disks ctree rtree uuids links sound but others streams conns few rests agrees owed = carried_by busy busy' w w' r r' c c' l link link' a found same vbs disks ctree rtree uuids links sound but others streams
+    (clients_kept w w' r r' l a.clients (all_there busy w r c a) conns (feeds_put w w' l link link' a.differ found same links few) owed) rests agrees
 
 -- a link's consumer is no vBucket that is not made
 pub consumer_made : (w : PlainWorld) (r : Chronicle) (c : Cluster) (link : PlainLink) (up down : List Frame) → LinkAgrees w r c link up down → (n v : ℕ) → vb_of w n v ≡ None → seat n v ≡ consumer_seat link → ⊥

@@ -4,7 +4,7 @@ use Rattle.transcript_law.proofs.Words.{ℕ, List, Option, Some, None, Plain, st
 use Rattle.{disk_journals.specs.Books.{Book}, node_world.specs.declared.arm.Arm.{Arm}, std.specs.Prelude.{option_map}}
 use Rattle.transcript_law.proofs.{Words.{Chronicle}, invariant.Agreement.{node_known, Power, vb_of, power_of, shelf_of, IsLink, LinksDiffer, Busy, vb_row}}
 use Rattle.transcript_law.proofs.disks.Disks.{beside_clients, beside_in, beside_power}
-use Rattle.transcript_law.specs.Feeding.{HasOpen, client_in}
+use Rattle.transcript_law.specs.{ClientStreams.{past_turn, with_clients_of}, Feeding.{HasOpen, client_in}}
 use Rattle.vb_events.specs.declared.event.StreamName.TheVariants.{Link}
 use Rattle.transcript_law.proofs.invariant.Owing.{Later}
 
@@ -108,12 +108,29 @@ pub record ToldOf (l : ℕ) (r r' : Chronicle) : Type 0 where
   pub clients : (n c : ℕ) → r'.clients_at n c ≡ r.clients_at n c
   pub dials : (k : ℕ) → (k ≡ l → ⊥) → r'.dial_of k ≡ r.dial_of k
   pub streams : (k q : ℕ) → (k ≡ l → ⊥) → r'.stream_of (Link k) q ≡ r.stream_of (Link k) q
+  pub states : (k : ℕ) → (k ≡ l → ⊥) → r'.stated_of k ≡ r.stated_of k
   pub points : (k : ℕ) → (k ≡ l → ⊥) → r'.point_of k ≡ r.point_of k
 
 -- a dial is for another vBucket
 abbrev pub IsApart : ℕ → ℕ → Option Dial → Type 0
 IsApart n v None = Unit {0}
 IsApart n v (Some dial) = dial.node ≡ n → dial.vb ≡ v → ⊥
+
+-- what is told of other links than l, and of other vBuckets than v of the node n, which it feeds, is as it was
+pub record OthersTold (l n v : ℕ) (r r' : Chronicle) : Type 0 where
+  pub rows : (m q : ℕ) → (m ≡ n → q ≡ v → ⊥) → vb_row r' m q ≡ vb_row r m q
+  pub dials : (k : ℕ) → (k ≡ l → ⊥) → r'.dial_of k ≡ r.dial_of k
+  pub streams : (k q : ℕ) → (k ≡ l → ⊥) → IsApart n v (r.dial_of k) → r'.stream_of (Link k) q ≡ r.stream_of (Link k) q
+  pub states : (k : ℕ) → (k ≡ l → ⊥) → r'.stated_of k ≡ r.stated_of k
+  pub points : (k : ℕ) → (k ≡ l → ⊥) → IsApart n v (r.dial_of k) → r'.point_of k ≡ r.point_of k
+
+-- lines that tell of the link l and its stream, and of the role of the vBucket v of the node n, which it feeds, at most
+pub record RoleOf (l n v : ℕ) (r r' : Chronicle) : Type 0 where
+  pub beside : OthersTold l n v r r'
+  pub open beside use *
+  pub last : Later r r'
+  pub tree : r'.tree ≡ r.tree
+  pub clients : (m c : ℕ) → r'.clients_at m c ≡ with_clients_of r.clients_at n (past_turn v (r.held n v)) m c
 
 -- lines that tell of the link l and its stream, and of what the vBucket v of the node n, which it feeds, holds and of its log, at most
 pub record TakenOf (l n v : ℕ) (r r' : Chronicle) : Type 0 where
@@ -124,7 +141,11 @@ pub record TakenOf (l n v : ℕ) (r r' : Chronicle) : Type 0 where
   pub clients : (m c : ℕ) → r'.clients_at m c ≡ r.clients_at m c
   pub dials : (k : ℕ) → (k ≡ l → ⊥) → r'.dial_of k ≡ r.dial_of k
   pub streams : (k q : ℕ) → (k ≡ l → ⊥) → IsApart n v (r.dial_of k) → r'.stream_of (Link k) q ≡ r.stream_of (Link k) q
+  pub states : (k : ℕ) → (k ≡ l → ⊥) → r'.stated_of k ≡ r.stated_of k
   pub points : (k : ℕ) → (k ≡ l → ⊥) → IsApart n v (r.dial_of k) → r'.point_of k ≡ r.point_of k
+
+pub others_taken : {l n v : ℕ} {r r' : Chronicle} → TakenOf l n v r r' → OthersTold l n v r r'
+others_taken t = record { rows = t.rows; dials = t.dials; streams = t.streams; states = t.states; points = t.points }
 
 -- a vBucket of which a step changed the streams alone, and none but that of this number
 pub record StreamsChanged (id : ℕ) (vb vb' : Plain) : Type 0 where

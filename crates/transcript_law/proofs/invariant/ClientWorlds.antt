@@ -166,7 +166,7 @@ up_goes conns n wanted link node t =
 
 -- ---- lines that change a role
 
-posts_in_go : (conns : Conns) (n : ℕ) (rs : List Resolved) (o : Outcome) → AreMute o.1.events → ConnsAre o.0 conns → Goes conns (posted_in n rs o)
+pub posts_in_go : (conns : Conns) (n : ℕ) (rs : List Resolved) (o : Outcome) → AreMute o.1.events → ConnsAre o.0 conns → Goes conns (posted_in n rs o)
 posts_in_go conns n rs o mute are = by (o.0.nodes n) refl
   where
     by : (k : Option PlainNode) → o.0.nodes n ≡ k → Goes conns (posted_at n rs o.0 o.1 k)
@@ -176,7 +176,7 @@ posts_in_go conns n rs o mute are = by (o.0.nodes n) refl
         (g.says, put_goes o.0 conns n (all_posted rs node).0 (o.1.events ++ (all_posted rs node).1) are g)
 
 -- connections whose streams a change of role ended are those that they were
-ended_are : (conns : Conns) (w : PlainWorld) (n v : ℕ) (ids : List ℕ) → ConnsAre w conns → ConnsAre (with_ended n v ids w) conns
+pub ended_are : (conns : Conns) (w : PlainWorld) (n v : ℕ) (ids : List ℕ) → ConnsAre w conns → ConnsAre (with_ended n v ids w) conns
 ended_are conns w n v ids are = by (w.nodes n) (are n)
   where
     one : (c : ℕ) (o : Option PlainClient) → IsKept n c o → (is_some (option_map (client_ended v ids) o) ≡ is_some o) × IsKept n c (option_map (client_ended v ids) o)

@@ -1,13 +1,13 @@
 -- after each line the connections of clients that the lines tell open are those of the nodes, and each line of a client is of one of them
 use Rattle.std.specs.Prelude.{◌≡◌, ◌<◌, ◌∷◌, ◌==◌, if◌then◌else◌}
-use Rattle.transcript_law.proofs.Words.{ℕ, Bool, true, false, List, [], refl, ap, sym, ◌∙◌, subst, Option, Some, None, is_some, Cause, Event, Role, Verb, VbVerb, NodeVerb, LinkVerb, ClientVerb, VerbFits, after}
+use Rattle.transcript_law.proofs.Words.{ℕ, Bool, true, false, List, [], flat_map, map, refl, ap, sym, ◌∙◌, subst, Option, Some, None, is_some, Cause, Event, Role, Verb, VbVerb, NodeVerb, LinkVerb, ClientVerb, VerbFits, after}
 use Rattle.transcript_law.proofs.Words.{AdminCall, PlainLink, PlainNode, PlainWorld, States, Outcome, Told, VbCall, admin_line, ask_in, bytes_at, called_at, client_at, clock_at, consumer_node, cut_outcome, done, empty_node, bytes_if, first_cause, hang_at, link_causes, link_number}
 use Rattle.transcript_law.proofs.Words.{node_causes, node_outcome, on_link, on_node, own_link, producer_node, promote_causes, promote_step, pump_at, refusal, refused_or, replica_at, replica_causes, role_outcome, row_at, turn_causes, turn_step, up_at, vb_at, vb_causes, verb_step, with_client, with_dialed, with_links, with_node_at, with_states}
-use Rattle.dcp_producer.specs.Ending.{end_closed}
+use Rattle.dcp_producer.specs.{Ending.{end_closed}, declared.yields.Yielded.{Yielded}}
 use Rattle.node_core.specs.Clients.{ClientPulled, PlainClient, client_fed, client_pulled, new_client}
-use Rattle.node_core.specs.{Admin.{admin_job, role_at}, Dials.{dial_due}}
+use Rattle.node_core.specs.{Admin.{admin_job, role_at}, Dials.{dial_due}, GivingUp.{dead_line, peer_gives_up, resolved_in}}
 use Rattle.node_world.specs.Arms.{fail_arm, stop_arm}
-use Rattle.node_world.specs.{Dues.{due_at, due_in, due_of, is_counted}, Links.{dial_of}, World.{base_of, client_verb_at, down_in}, Worlds.{on_made}}
+use Rattle.node_world.specs.{Dues.{due_at, due_in, due_of, is_counted}, Links.{dial_of, link_number, peer_of}, Pumps.{gives_at, with_given, with_gone}, Turns.{with_ended}, World.{base_of, client_verb_at, down_in, pump_outcome, pump_step, put_behind}, Worlds.{on_made}}
 use Rattle.node_world.specs.Nodes.{arm_at, chain_causes, chain_line, chain_made, flush_line, hung_if, if_up, pull_at, pull_if, save_line, tick_line, vb_made}
 use Rattle.node_world.specs.Power.{crash_causes, down_lines, dropped, start_at, start_causes}
 use Rattle.transcript_law.proofs.invariant.ClientNodes.{NodeGoes, NodeTold, mute_goes, none_told, put_goes_on, put_told, runs_with, same_told, session_goes}
@@ -19,7 +19,7 @@ use Rattle.transcript_law.specs.Chronicles.{Conns, conns_lines, conns_verb, with
 use Rattle.transcript_law.specs.Clients.{ClientAnswer, IsCrashed}
 use Rattle.vb_disk.specs.declared.made.Outcome.{Outcome as Left}
 use Rattle.vb_types.specs.declared.journal.FlushPart.TheVariants as part
-use Rattle.transcript_law.proofs.invariant.ClientWorlds.{Came, ConnsAre, Goes, NodeToldIf, armed, came, crash_came, down_came, down_say, flush_goes, made, on, over, put_node, put_same, role_goes, save_goes, settled_goes, stays, told_at, unless, unless_node, unlinked_are, up_goes}
+use Rattle.transcript_law.proofs.invariant.ClientWorlds.{ended_are, posts_in_go, Came, ConnsAre, Goes, NodeToldIf, armed, came, crash_came, down_came, down_say, flush_goes, made, on, over, put_node, put_same, role_goes, save_goes, settled_goes, stays, told_at, unless, unless_node, unlinked_are, up_goes}
 use Rattle.transcript_law.proofs.invariant.{ClientStarts.{start_came}, Ranged.{pull_kept}}
 
 unless_came : (conns : Conns) (w : PlainWorld) (o : Outcome) (why : Option Cause) → ConnsAre w conns → Came conns o → Came conns (refused_or why w o)
@@ -51,6 +51,38 @@ due_goes conns n v o g = by (is_counted o.1.answer)
     by : (b : Bool) → Goes conns (if b then due_of n o.0 o.1 (own_link n v o.0.links) else o)
     by true = of (own_link n v o.0.links)
     by false = g
+
+-- ---- vBuckets that are given up, and frames behind that
+
+-- the lines of these tell of no client
+dead_mute : (n : ℕ) (given : List Yielded) → AreMute (map (dead_line n) given)
+dead_mute n [] = tt
+dead_mute n (one ∷ more) = (tt, dead_mute n more)
+
+given_are : (conns : Conns) (n : ℕ) (given : List Yielded) (w : PlainWorld) → ConnsAre w conns → ConnsAre (with_given n given w) conns
+given_are conns n [] w are = are
+given_are conns n (one ∷ more) w are = given_are conns n more (with_ended n one.vb one.ended w) (ended_are conns w n one.vb one.ended are)
+
+pub pump_goes_on : (conns : Conns) (w : PlainWorld) (l frames : ℕ) → ConnsAre w conns → Goes conns (pump_step w l frames)
+pump_goes_on conns w l frames are = by (row_at link_number l w.links)
+  where
+    gave : (link : PlainLink) (o : Option PlainNode) → w.nodes (producer_node link) ≡ o → Goes conns (gives_at frames link w o)
+    gave link None e = (tt, are)
+    gave link (Some node) e =
+        let n = producer_node link in let x = after (peer_gives_up frames (peer_of link)) node.vbs in let given : List Yielded = x.1.given in
+        posts_in_go conns n (flat_map resolved_in given) (with_given n given (with_gone link node x.0 x.1.peer w), done (map (dead_line n) given)) (dead_mute n given)
+        (given_are conns n given (with_gone link node x.0 x.1.peer w) (put_same w conns n (with_states node x.0) are (same_told (conns n) n node (with_states node x.0) (λ c. refl) refl (told_at w conns n node e are))))
+
+    behind : (before : Outcome) → Goes conns before → Goes conns (put_behind l frames before)
+    behind before g =
+        let now : Conns = conns_lines conns before.1.events in let o : Outcome = on_link before.0 l producer_node (pump_at frames) in
+        let p : Goes now o = over now before.0 l producer_node (pump_at frames) g.1 (λ link node t.
+        stays now (producer_node link) node (pump_at frames link node).0 (pump_at frames link node).1.1.events (pump_mute frames link node) (λ c. refl) refl t) in
+        (say_more conns before.1.events o.1.events g.0 p.0, subst (ConnsAre o.0) (sym (conns_more conns before.1.events o.1.events)) p.1)
+
+    by : (o : Option PlainLink) → Goes conns (pump_outcome w l frames o)
+    by None = (tt, are)
+    by (Some link) = behind (gives_at frames link w (w.nodes (producer_node link))) (gave link (w.nodes (producer_node link)) refl)
 
 -- ---- lines of clients
 
@@ -159,12 +191,11 @@ module _ (conns : Conns) (w : PlainWorld) (number : ℕ) (are : ConnsAre w conns
   line_heard (Verb.AtClient n c (ClientVerb.Pull frames)) fits = came conns (verb_step w number (Verb.AtClient n c (ClientVerb.Pull frames))) (on conns w n (pull_at c frames) are (λ node t. pull_goes conns n c frames node t))
   line_heard (Verb.AtClient n c ClientVerb.Hang) fits = hang_came conns w n c are
   line_heard (Verb.AtNode n (NodeVerb.Clock nanos)) fits = came conns (verb_step w number (Verb.AtNode n (NodeVerb.Clock nanos))) (on conns w n (clock_at nanos) are (λ node t. stays conns n node (clock_at nanos node).0 [] tt (λ c. refl) refl t))
-  line_heard (Verb.Link l m n v buffer) fits = came conns (verb_step w number (Verb.Link l m n v buffer)) (unless conns w (with_links w (with_dialed number l m n v buffer w.links (ask_in w n v)), done []) (first_cause (link_causes w l m n v)) are (tt, are))
+  line_heard (Verb.Link l m n v buffer takeover) fits = came conns (verb_step w number (Verb.Link l m n v buffer takeover)) (unless conns w (with_links w (with_dialed number l m n v buffer takeover w.links (ask_in w n v)), done []) (first_cause (link_causes w l m n v)) are (tt, are))
   line_heard (Verb.AtLink l (LinkVerb.Up wanted)) fits = came conns (verb_step w number (Verb.AtLink l (LinkVerb.Up wanted))) (over conns w l producer_node (up_at wanted) are (λ link node t. up_goes conns (producer_node link) wanted link node t))
   line_heard (Verb.AtLink l (LinkVerb.Down wanted)) fits = down_came conns w l (row_at link_number l w.links) (on_link w l consumer_node (down_in wanted)) (over conns w l consumer_node (down_in wanted) are (λ link node t.
       stays conns (consumer_node link) node (down_in wanted link node).0 (down_in wanted link node).1.1.events (down_mute wanted link node) (λ c. refl) refl t))
-  line_heard (Verb.AtLink l (LinkVerb.Pump frames)) fits = came conns (verb_step w number (Verb.AtLink l (LinkVerb.Pump frames))) (over conns w l producer_node (pump_at frames) are (λ link node t.
-      stays conns (producer_node link) node (pump_at frames link node).0 (pump_at frames link node).1.1.events (pump_mute frames link node) (λ c. refl) refl t))
+  line_heard (Verb.AtLink l (LinkVerb.Pump frames)) fits = came conns (verb_step w number (Verb.AtLink l (LinkVerb.Pump frames))) (pump_goes_on conns w l frames are)
   line_heard (Verb.AtLink l LinkVerb.Cut) fits = elim (row_at link_number l w.links) as (λ o. Came conns (cut_outcome w o)) [ None ↦ (tt, are) | Some link ↦ ((tt, tt), unlinked_are w conns link are) ]
   line_heard (Verb.AtVb n v (VbVerb.Promote uuid)) fits = armed conns n w (promote_step w n v uuid) (unless conns w (role_outcome n v (AdminCall.Promote uuid) w) (first_cause (promote_causes w n v uuid)) are (role_goes conns w n v (AdminCall.Promote uuid) refl are))
   line_heard (Verb.AtVb n v VbVerb.Follow) fits = armed conns n w (turn_step w n v Role.Replica AdminCall.Follow) (turn_goes conns w n v Role.Replica AdminCall.Follow refl are)

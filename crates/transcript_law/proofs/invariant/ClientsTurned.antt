@@ -204,24 +204,33 @@ module _ (w w' : PlainWorld) (r r' : Chronicle) (n v : ℕ) (told : ClientsTold 
             (λ ne. let (client, is, has) = of in (client, sym (turned.there m c ne) ∙ is, has)) (cases_eq m n),
       )
 
--- a connection that a change of role, which ends all open streams of the vBucket, ended the streams of
-pub all_ended : (w : PlainWorld) (r : Chronicle) (n v c : ℕ) (vb : Plain) (client : PlainClient) → vb_of w n v ≡ Some vb → ClientAgrees w r n c client → StreamsEnded v client (client_ended v (stream_ids vb.streams) client)
-all_ended w r n v c vb client there a = record {
-  ends = ended_in v (stream_ids vb.streams);
-  same = ended_same v (stream_ids vb.streams);
-  others = λ s ne. ap (λ b. if b && list_any (λ i. i == s.id) (stream_ids vb.streams) then record s { ended = true } else s) (ne_eqb s.vb v ne);
+-- a connection whose open streams of the vBucket are among those that a change of role ended
+pub all_listed : (v : ℕ) (ids : List ℕ) (client : PlainClient) → ((s : PlainStream) → Among s client.producer.streams → s.vb ≡ v → s.ended ≡ false → list_any (λ k. k == s.id) ids ≡ true) → StreamsEnded v client (client_ended v ids client)
+all_listed v ids client listed = record {
+  ends = ended_in v ids;
+  same = ended_same v ids;
+  others = λ s ne. ap (λ b. if b && list_any (λ i. i == s.id) ids then record s { ended = true } else s) (ne_eqb s.vb v ne);
   all = λ s i e. by s i e s.ended refl;
   is = refl;
 }
   where
-    by : (s : PlainStream) → Among s client.producer.streams → s.vb ≡ v → (b : Bool) → s.ended ≡ b → (ended_in v (stream_ids vb.streams) s).ended ≡ true
-    by s i e true over = (ended_same v (stream_ids vb.streams) s).ended over
+    by : (s : PlainStream) → Among s client.producer.streams → s.vb ≡ v → (b : Bool) → s.ended ≡ b → (ended_in v ids s).ended ≡ true
+    by s i e true over = (ended_same v ids s).ended over
     by s i e false opens =
-        let (g, known, x) = open_known w r n c client a v s.id (subst (λ q. HasOpen q s.id client.producer.streams) e (among_open s client.producer.streams i opens)) in
-        let z : Some x.vb ≡ Some vb = sym x.there ∙ there in let own : x.vb ≡ vb = cc in
-        let listed : list_any (λ k. k == s.id) (stream_ids vb.streams) ≡ true = id_listed s.id vb.streams x.stream (subst (λ (p : Plain). stream_at s.id p.streams ≡ Some x.stream) own x.opened) in
-        ap (λ b. (if b && list_any (λ k. k == s.id) (stream_ids vb.streams) then record s { ended = true } else s).ended) (eq-eqb s.vb v e)
-        ∙ ap (λ b. (if b then record s { ended = true } else s).ended) listed
+        ap (λ b. (if b && list_any (λ k. k == s.id) ids then record s { ended = true } else s).ended) (eq-eqb s.vb v e)
+        ∙ ap (λ b. (if b then record s { ended = true } else s).ended) (listed s i e opens)
+
+-- an open one is at the vBucket
+pub open_at : (w : PlainWorld) (r : Chronicle) (n v c : ℕ) (vb : Plain) (client : PlainClient) → vb_of w n v ≡ Some vb → ClientAgrees w r n c client → (s : PlainStream) → Among s client.producer.streams → s.vb ≡ v → s.ended ≡ false
+    → (t : Stream) × (stream_at s.id vb.streams ≡ Some t)
+open_at w r n v c vb client there a s i e opens =
+    let (g, known, x) = open_known w r n c client a v s.id (subst (λ q. HasOpen q s.id client.producer.streams) e (among_open s client.producer.streams i opens)) in
+    let z : Some x.vb ≡ Some vb = sym x.there ∙ there in let own : x.vb ≡ vb = cc in
+    (x.stream, subst (λ (p : Plain). stream_at s.id p.streams ≡ Some x.stream) own x.opened)
+
+-- a connection that a change of role, which ends all open streams of the vBucket, ended the streams of
+pub all_ended : (w : PlainWorld) (r : Chronicle) (n v c : ℕ) (vb : Plain) (client : PlainClient) → vb_of w n v ≡ Some vb → ClientAgrees w r n c client → StreamsEnded v client (client_ended v (stream_ids vb.streams) client)
+all_ended w r n v c vb client there a = all_listed v (stream_ids vb.streams) client (λ s i e opens. let (t, is) = open_at w r n v c vb client there a s i e opens in id_listed s.id vb.streams t is)
 
 -- where the vBucket is not there, or takes no writes, all of them are ended before
 map_same : (streams : List PlainStream) → map (λ s. s) streams ≡ streams

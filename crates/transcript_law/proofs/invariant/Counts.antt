@@ -43,5 +43,5 @@ module _ (w w' : PlainWorld) (r : Chronicle) (c : Cluster) (n v : ℕ) (vb : Pla
   elsewhere m q other = subst (λ t. VbIsIf r.tree r.writer_of t m q (c.nodes (seat m q)) (vb_of w m q)) (sym (rows m q other)) (a.vbs m q)
 
   pub counts_agree : AgreesIn idle w' counted c
-  counts_agree = changed_agrees w w' r counted c n v vb counting a known became (record { role = refl; wants = refl; fewer = λ x p o. (o.0, record { among = o.1.among; entry = o.1.entry; same = o.1.same }) }) refl (λ k. refl) (λ k q. refl) (λ k. refl) (λ x i k has s. refl) here elsewhere (λ m q. refl) shelf
+  counts_agree = changed_agrees w w' r counted c n v vb counting a known became (record { role = refl; wants = refl; fewer = λ x p o. (o.0, record { among = o.1.among; entry = o.1.entry; same = o.1.same }) }) refl (λ k. refl) (λ k q. refl) (λ k. refl) (λ k. refl) (λ x i k has s. refl) here elsewhere (λ m q. refl) shelf
       (disk_same (Some vb) (Some counting) refl refl refl refl) (λ m. refl) rows (λ m d. refl) (λ d k has. refl) (later_same _ _ refl refl)

@@ -1,6 +1,6 @@
 -- after each line each stream of a vBucket is that of an open link or of a client's connection
 use Rattle.std.specs.Prelude.{◌≡◌, ◌∷◌, ◌++◌}
-use Rattle.transcript_law.proofs.Words.{ℕ, List, [], refl, ap, inl, inr, ⊎_elim, fold, length, take, Option, Some, None, row_at, States, after, after_job, Cause, EndReason, Role, Plain}
+use Rattle.transcript_law.proofs.Words.{ℕ, Bool, List, [], refl, ap, inl, inr, ⊎_elim, fold, length, take, Option, Some, None, row_at, States, after, after_job, Cause, EndReason, Role, Plain}
 use Rattle.transcript_law.proofs.Words.{PlainLink, link_number, producer_node, consumer_node, PlainNode, PlainWorld, Told, Outcome, DialResult, with_node_at, with_links, with_states, node_outcome, own_link, moved_len, peer_of, dial_of, dial_bytes, over_why, up_at, pump_at, refusal, refused_or, first_cause, done}
 use Rattle.transcript_law.proofs.Words.{cut_outcome, with_dialed, link_outcome, on_link, with_link, StreamAsk, new_link, new_vb, peer_pulled, with_vb_at}
 use Rattle.transcript_law.proofs.{invariant.Agreement.{IsLink}, invariant.FedClients.{Keeps, NodeFed, keeps_all, less_keeps, none_fed, posts_keep}, invariant.FedNodes.{pump_held, up_held}, invariant.Feeding.{AllFed, AllKept, Fed, Fine, broken_fine, kept_fine, relinked_fed, served_fed, swapped, unlinked_fine}, invariant.LinkRows.{found_is_link}, verbs.Leaving.{own_found}}
@@ -196,9 +196,9 @@ module _ (w : PlainWorld) (fine : Fine w) where
   more_in x y [] i = absurd i
   more_in x y (z ∷ zs) i = ⊎_elim (λ e. inl e) (λ j. inr (more_in x y zs j)) i
 
-  pub dialed_fed : (line l m n v buffer : ℕ) (o : Option StreamAsk) → AllFed (with_links w (with_dialed line l m n v buffer w.links o))
-  dialed_fed line l m n v buffer None = fine.fed
-  dialed_fed line l m n v buffer (Some ask) = λ k node is. relinked_fed (Fed w.links k) (Fed (w.links ++ new_link line l m n v buffer ask ∷ []) k) node.vbs node.clients (λ q id (x, i, of). (x, more_in x (new_link line l m n v buffer ask) w.links i, of)) (fine.fed k node is)
+  pub dialed_fed : (line l m n v buffer : ℕ) (takeover : Bool) (o : Option StreamAsk) → AllFed (with_links w (with_dialed line l m n v buffer takeover w.links o))
+  dialed_fed line l m n v buffer takeover None = fine.fed
+  dialed_fed line l m n v buffer takeover (Some ask) = λ k node is. relinked_fed (Fed w.links k) (Fed (w.links ++ new_link line l m n v buffer takeover ask ∷ []) k) node.vbs node.clients (λ q id (x, i, of). (x, more_in x (new_link line l m n v buffer takeover ask) w.links i, of)) (fine.fed k node is)
 
 -- what is due behind a batch
 pub due_fine : (n v : ℕ) (o : Outcome) → Fine o.0 → Fine (due_in n v o).0

@@ -4,7 +4,7 @@ use Rattle.transcript_law.proofs.Words.{ℕ, Bool, true, false, List, [], refl, 
 use Rattle.transcript_law.proofs.Words.{PlainLink, link_number, producer_node, PlainNode, PlainWorld, PlainStream, Told, Outcome, AdminCall, AdminResult, with_node_at, with_links, node_outcome, node_if, on_node, unlinked, own_link, cut_off, link_ended, ended_by, ended_in, end_closed}
 use Rattle.transcript_law.proofs.Words.{refusal, called_at, no_node, turned_after, turned_if, with_ended, role_outcome}
 use Rattle.transcript_law.proofs.{invariant.Agreement.{IsLink}, invariant.Carried.{numbers}, verbs.Leaving.{own_found}, invariant.Numbered.{Numbers, numbers_out, numbers_passed, numbers_put, numbers_told, one_of_number, out_other, passed, put_in, put_other, told_there}}
-use Rattle.transcript_law.proofs.{invariant.FedClients.{Conns, Keeps, NodeFed, closed_none, none_fed, posts_keep}, invariant.OpenStreams.{AreKept, kept_went}, invariant.Quiets.{Ends}, invariant.Unopened.{either}}
+use Rattle.transcript_law.proofs.{invariant.FedClients.{Conns, Keeps, NodeFed, closed_none, none_fed, posts_keep}, invariant.OpenStreams.{AreKept, kept_went}, invariant.Quiets.{Ends}, invariant.Unopened.{NoNew, either}}
 use Rattle.transcript_law.specs.Feeding.{HasIn, HasOpen, IsOf, IsOpenAt}
 use Rattle.dcp_producer.proofs.Kept.{ids_of}
 use Rattle.node_core.specs.Clients.{PlainClient, client_ended}
@@ -108,14 +108,18 @@ module _ (w : PlainWorld) (link link' : PlainLink) (fine : Fine w) (is : IsLink 
         by true e q = subst (λ (x : PlainNode). NodeFed (Fed put_links m) x.vbs x.clients) (some_is node' k q) (subst (λ l. NodeFed (Fed put_links l) node'.vbs node'.clients) (sym (eqb-true m n e)) here)
         by false e q = there m k e q
 
-  -- its consumer alone is another one
-  pub swapped : link'.server ≡ link.server → link_number link' ≡ link_number link → Fine (with_links w put_links)
-  swapped server number = record {
+  -- it has the same streams
+  pub swapped_open : producer_node link' ≡ producer_node link → ((v id : ℕ) → HasOpen v id link.server.streams → HasOpen v id link'.server.streams) → link_number link' ≡ link_number link → Fine (with_links w put_links)
+  swapped_open producer streams number = record {
     numbers = numbers_put (link_number link) link' w.links number fine.numbers;
     fed = λ n k q. relinked_fed (Fed w.links n) (Fed put_links n) k.vbs k.clients (λ v id x. ⊎_elim (λ o. others_put n v id o)
-        (λ of. (link', put_in (link_number link) link' w.links link is refl, record { producer = ap (λ s. s.desk.node) server ∙ of.producer; stream = subst (HasOpen v id) (sym (ap (λ s. s.streams) server)) of.stream }))
+        (λ of. (link', put_in (link_number link) link' w.links link is refl, record { producer = producer ∙ of.producer; stream = streams v id of.stream }))
         (split n v id x)) (fine.fed n k q);
   }
+
+  -- its consumer alone is another one
+  pub swapped : link'.server ≡ link.server → link_number link' ≡ link_number link → Fine (with_links w put_links)
+  swapped server number = swapped_open (ap (λ s. s.desk.node) server) (λ v id has. subst (HasOpen v id) (sym (ap (λ s. s.streams) server)) has) number
 
 -- ---- a link that is over
 
@@ -228,7 +232,8 @@ ended_ids v ids (s ∷ more) = λ i. by (s.vb == v && list_any (λ x. x == s.id)
     by true = refl
     by false = refl
 
-module _ (w : PlainWorld) (n v : ℕ) (node node' : PlainNode) (ids : List ℕ) (fine : Fine w) (known : w.nodes n ≡ Some node) (ends : Ends node.vbs node'.vbs v) (same : (c : ℕ) → node'.clients c ≡ node.clients c) where
+-- the streams that the vBucket has yet are those of links
+module _ (w : PlainWorld) (n v : ℕ) (node node' : PlainNode) (ids : List ℕ) (fine : Fine w) (known : w.nodes n ≡ Some node) (less : NoNew node.vbs node'.vbs) (own : (id : ℕ) → HasIn (node'.vbs v) id → Fed (links_ended n v ids w.links) n v id) (same : (c : ℕ) → node'.clients c ≡ node.clients c) where
   abbrev ended : PlainWorld
   ended = with_ended n v ids (with_node_at w n node')
 
@@ -242,10 +247,10 @@ module _ (w : PlainWorld) (n v : ℕ) (node node' : PlainNode) (ids : List ℕ) 
   ended_here : NodeFed (Fed ended_links n) node'.vbs (λ c. option_map (client_ended v ids) (node'.clients c))
   ended_here = let fed = fine.fed n node known in record {
     owned = λ q id h.
-        let apart : q ≡ v → ⊥ = λ e. ends.none id (subst (λ u. HasIn (node'.vbs u) id) e h) in
-        ⊎_elim (λ x. inl (told_links n q id (λ a e. apart e) x))
+        ⊎_elim (λ e. inl (subst (λ u. Fed ended_links n u id) (sym e) (own id (subst (λ u. HasIn (node'.vbs u) id) e h))))
+        (λ apart. ⊎_elim (λ x. inl (told_links n q id (λ a e. apart e) x))
         (λ (c, client, is, has). inr (c, client_ended v ids client, ap (option_map (client_ended v ids)) (same c ∙ is), goes_on v ids q id apart client.producer.streams has))
-        (fed.owned q id (ends.less q id h));
+        (fed.owned q id (less q id h))) (numbers q v);
     kept = λ c client is. by c (node'.clients c) (same c) client is;
   }
     where
@@ -256,8 +261,8 @@ module _ (w : PlainWorld) (n v : ℕ) (node node' : PlainNode) (ids : List ℕ) 
   there_ended : (m : ℕ) (k : PlainNode) → (m ≡ n → ⊥) → w.nodes m ≡ Some k → NodeFed (Fed ended_links m) k.vbs k.clients
   there_ended m k ne q = relinked_fed (Fed w.links m) (Fed ended_links m) k.vbs k.clients (λ u id x. told_links m u id (λ a s. ne a) x) (fine.fed m k q)
 
-  pub ended_fine : Fine ended
-  ended_fine = record { numbers = numbers_told n v ids w.links fine.numbers; fed = λ m k q. by m k (n == n) refl q }
+  pub ended_fed : Fine ended
+  ended_fed = record { numbers = numbers_told n v ids w.links fine.numbers; fed = λ m k q. by m k (n == n) refl q }
     where
       inner : (m : ℕ) (k : PlainNode) (b : Bool) → (m == n) ≡ b → (if b then Some (with_clients_ended v ids node') else (if b then Some node' else w.nodes m)) ≡ Some k → NodeFed (Fed ended_links m) k.vbs k.clients
       inner m k true e z = subst (λ (x : PlainNode). NodeFed (Fed ended_links m) x.vbs x.clients) (some_is (with_clients_ended v ids node') k z)
@@ -268,12 +273,20 @@ module _ (w : PlainWorld) (n v : ℕ) (node node' : PlainNode) (ids : List ℕ) 
       by m k true e z = inner m k (m == n) refl z
       by m k false e z = absurd (eqb-false n n e refl)
 
-  pub turned_fine : (told : AdminResult) → Fine (posted_in n told.resolved (turned n v told ended)).0
-  turned_fine told = posts_in_fine n told.resolved (turned n v told ended) (by (own_link n v ended.links) refl)
+-- the vBucket has none
+module _ (w : PlainWorld) (n v : ℕ) (node node' : PlainNode) (ids : List ℕ) (fine : Fine w) (known : w.nodes n ≡ Some node) (ends : Ends node.vbs node'.vbs v) (same : (c : ℕ) → node'.clients c ≡ node.clients c) where
+  abbrev turned_world : PlainWorld
+  turned_world = with_ended n v ids (with_node_at w n node')
+
+  ended_fine : Fine turned_world
+  ended_fine = ended_fed w n v node node' ids fine known ends.less (λ id h. absurd (ends.none id h)) same
+
+  pub turned_fine : (told : AdminResult) → Fine (posted_in n told.resolved (turned n v told turned_world)).0
+  turned_fine told = posts_in_fine n told.resolved (turned n v told turned_world) (by (own_link n v turned_world.links) refl)
     where
-      by : (o : Option PlainLink) → own_link n v ended.links ≡ o → Fine (cut_off o ended).0
+      by : (o : Option PlainLink) → own_link n v turned_world.links ≡ o → Fine (cut_off o turned_world).0
       by None e = ended_fine
-      by (Some link) e = unlinked_fine ended link ended_fine (own_found n v ended.links link e).0
+      by (Some link) e = unlinked_fine turned_world link ended_fine (own_found n v turned_world.links link e).0
 
 -- a call that gives the vBucket v a role
 pub role_fine : (w : PlainWorld) (n v : ℕ) (asked : AdminCall)

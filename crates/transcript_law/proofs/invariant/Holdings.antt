@@ -180,12 +180,25 @@ pub record VbHeld (tree : List Branch) (contents : VbContents) (m : Member) (vb 
 abbrev pub VbHolds : Chronicle → ℕ → ℕ → Member → Plain → Type 0
 VbHolds r n v m vb = VbHeld r.tree (vb_contents r n v) m vb
 
+-- whether a vBucket changed since it was sealed is told as it is; of one that is about to take its branch over it may be told so though it was sealed, as it is sealed with no line where another state pending comes
+abbrev pub OpenedAs : Role → Bool → Bool → Type 0
+OpenedAs Role.Pending true changed = Unit {0}
+OpenedAs role told changed = told ≡ changed
+
+pub opened_as : (role : Role) (told changed : Bool) → told ≡ changed → OpenedAs role told changed
+opened_as Role.Pending true changed e = tt
+opened_as role told changed e = e
+
+pub opened_is : (role : Role) (told changed : Bool) → (role ≡ Role.Pending → ⊥) → OpenedAs role told changed → told ≡ changed
+opened_is Role.Pending told changed other x = absurd (other refl)
+opened_is role told changed other x = x
+
 -- the same, with its role and what it may write
 pub record VbRowIs (tree : List Branch) (writer_of : ℕ → Option (ℕ × ℕ)) (row : VbRow) (n v : ℕ) (m : Member) (vb : Plain) : Type 0 where
   pub kept : VbHeld tree row.contents m vb
   pub open kept use *
   pub role : row.role ≡ Some (Some vb.role)
-  pub opened : row.opened ≡ is_some vb.spans.current
+  pub opened : OpenedAs vb.role row.opened (is_some vb.spans.current)
   pub writes : IsWriterIf (is_active vb.role) tree (writer_of m.br) row.contents.branch n v m.br
   pub counts : CountsIf (is_active vb.role) row.counts vb.others vb.acks
   pub lefts : is_active vb.role ≡ true → LeftUpTo row.counts.risen vb.position.at vb.waiting

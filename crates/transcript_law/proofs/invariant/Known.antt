@@ -1,7 +1,7 @@
 -- role, log and snapshot of each vBucket are known behind each line
 use Rattle.std.specs.Prelude.{◌≡◌, ◌∷◌}
 use Rattle.transcript_law.proofs.Words.{ℕ, Bool, true, false, List, [], refl, Option, Some, None, option_map, All-head, All-tail, ScriptLine, ScriptFits, VerbFits, Plain, PlainWorld, empty_world, with_branches, verb_step, world_step, groups_from, Event, Role, Chronicle, empty_chronicle, after_line, with_at, with_entry, kept_to}
-use Rattle.transcript_law.proofs.{invariant.Agreement.{Agrees, AgreesAt, AgreesIn, idle, vb_of}, invariant.Ranged.{IsRanged, start_ranged}, Runs.{group_agrees, group_serves, row_of, start, start_serves}, verbs.Rows.{Row}, invariant.Seats.{seat}, invariant.Tables.{pick}}
+use Rattle.transcript_law.proofs.{invariant.Agreement.{Agrees, AgreesAt, AgreesIn, idle, vb_of}, invariant.Ranged.{IsRanged, start_ranged}, Runs.{Along, along, along_start}, verbs.Rows.{Row}, invariant.Seats.{seat}, invariant.Tables.{pick}}
 use Rattle.cluster_model.specs.Clusters.{Cluster}
 use Rattle.transcript_law.specs.{Chronicles.{after_group, at_line, snap_in_role}, Lawfulness.{AllKnown}, LinesTold.{roles_from}, Prefixes.{known_after, known_of, world_after, world_of}}
 use Rattle.vb_types.specs.declared.stream.AskAnswer.{AskAnswer}
@@ -40,17 +40,16 @@ agreed w r c a = record { role = λ n v. roles n v (vb_of w n v) refl (a.vbs n v
     snaps n v (Some vb) x = (_, x.snap)
 
 -- after more lines all agree
-agrees_from : (w : PlainWorld) (r : Chronicle) (script : List ScriptLine) → ScriptFits script → IsRanged w → ConnsAre w r.conn_at → ServesOpen r.last r.conn_at → IsStill r → Agrees w r → Agrees (world_after w script) (known_after r script (groups_from w script))
+agrees_from : (w : PlainWorld) (r : Chronicle) (script : List ScriptLine) → ScriptFits script → Along w r → Agrees (world_after w script) (known_after r script (groups_from w script))
 unfolding world_step
-agrees_from w r [] fits ranged are serves calm a = a
-agrees_from w r (line ∷ lines) fits ranged are serves calm a =
-    let fit = All-head (λ (x : ScriptLine). VerbFits x.verb) line lines fits in let outcome = verb_step w line.line line.verb in let row : Row w line.verb outcome = row_of w line.line line.verb in
-    agrees_from (with_branches outcome.1.events outcome.0) (after_group (at_line r line.line) line.verb outcome.1.events outcome.1.answer) lines (All-tail (λ (x : ScriptLine). VerbFits x.verb) line lines fits) (row.ranged fit ranged) (line_heard r.conn_at w line.line are line.verb fit).1 (group_serves r line.line line.verb outcome.1.events outcome.1.answer) (tt, refl)
-    (group_agrees w r line.line line.verb fit ranged are serves calm a)
+agrees_from w r [] fits x = x.agrees
+agrees_from w r (line ∷ lines) fits x =
+    let fit = All-head (λ (y : ScriptLine). VerbFits y.verb) line lines fits in let outcome = verb_step w line.line line.verb in
+    agrees_from (with_branches outcome.1.events outcome.0) (after_group (at_line r line.line) line.verb outcome.1.events outcome.1.answer) lines (All-tail (λ (y : ScriptLine). VerbFits y.verb) line lines fits) (along w r line fit x)
 
 -- behind a script
 pub script_known : (script : List ScriptLine) → ScriptFits script → AllKnown (known_of script)
-script_known script fits = let x = agrees_from empty_world empty_chronicle script fits start_ranged start_conns start_serves (tt, refl) start in agreed (world_of script) (known_of script) x.0 x.1
+script_known script fits = let x = agrees_from empty_world empty_chronicle script fits along_start in agreed (world_of script) (known_of script) x.0 x.1
 
 -- and behind a line, where it was before it
 snap_known : (new : Role) (told : Chronicle) (n v : ℕ) → AllKnown told → IsSome (snap_in_role new (told.held n v) (told.snap_at n v))

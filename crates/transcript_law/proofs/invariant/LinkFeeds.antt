@@ -1,7 +1,7 @@
 -- whose streams are open where links are other ones
 use Rattle.std.specs.Prelude.{◌≡◌, ◌⊎◌}
 use Rattle.transcript_law.proofs.Words.{ℕ, ap, sym, ◌∙◌, subst, inl, inr, ⊎_elim, Some, row_at, row_out, row_put, PlainLink, link_number, producer_node, PlainWorld}
-use Rattle.transcript_law.proofs.invariant.{Agreement.{IsLink, LinksDiffer, vb_of}, Carrying.{SameEnds}, ClientsKept.{IsFree}, LinkRows.{found_is_link, out_links, put_links, row_found}}
+use Rattle.transcript_law.proofs.invariant.{Agreement.{IsLink, LinksDiffer, vb_of}, Carrying.{NoNewStream, SameEnds}, ClientsKept.{IsFree}, LinkRows.{found_is_link, out_links, put_links, row_found}}
 use Rattle.transcript_law.specs.Feeding.{HasFed, HasOpen}
 use Rattle.vb_events.specs.declared.event.StreamName.TheVariants.{Link}
 
@@ -27,6 +27,19 @@ feeds_put w w' l link link' differ found same linked few k n v id (x, is, of) =
     ⊎_elim (λ h. inl (link_feeds w differ k n v id link was.0 (was.1 ∙ sym number) own h)) (λ f. inr (number, subst (λ m. IsFree id (vb_of w m v)) own f))
     (few v id (subst (λ (y : PlainLink). HasOpen v id y.server.streams) e of.stream)))
     (λ p. inl (link_feeds w differ k n v id x p.0 at.1 of.producer of.stream))
+    (put_links l w.links link link' x differ found (ap (λ d. d.link) same.dialed ∙ was.1) (subst (IsLink x) linked at.0))
+
+-- where it has no open stream that it had not, all were those that they were
+pub feeds_less : (w w' : PlainWorld) (l : ℕ) (link link' : PlainLink) → LinksDiffer w.links → row_at link_number l w.links ≡ Some link → SameEnds link link' → w'.links ≡ row_put link_number l link' w.links → NoNewStream link link'
+    → (k n v id : ℕ) → HasFed w' (Link k) n v id → HasFed w (Link k) n v id
+feeds_less w w' l link link' differ found same linked less k n v id (x, is, of) =
+    let at = found_is_link k w'.links x is in let was = found_is_link l w.links link found in
+    ⊎_elim
+    (λ e.
+    let own : producer_node link ≡ n = sym (ap (λ d. d.node) same.desk) ∙ ap producer_node (sym e) ∙ of.producer in
+    let number : k ≡ l = sym at.1 ∙ ap link_number e ∙ ap (λ d. d.link) same.dialed ∙ was.1 in
+    link_feeds w differ k n v id link was.0 (was.1 ∙ sym number) own (less v id (subst (λ (y : PlainLink). HasOpen v id y.server.streams) e of.stream)))
+    (λ p. link_feeds w differ k n v id x p.0 at.1 of.producer of.stream)
     (put_links l w.links link link' x differ found (ap (λ d. d.link) same.dialed ∙ was.1) (subst (IsLink x) linked at.0))
 
 -- and one is taken out

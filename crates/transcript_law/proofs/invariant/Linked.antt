@@ -2,9 +2,10 @@
 use Rattle.std.specs.Prelude.{◌≡◌, ◌∷◌, ◌⊎◌, ◌==◌, if◌then◌else◌}
 use Rattle.transcript_law.proofs.Words.{ℕ, true, false, List, [], refl, ap, sym, ◌∙◌, subst, inl, inr, ⊎_elim, Option, Some, None, not, eqb-true, All-head, All-tail, ScriptLine, VerbFits, ScriptFits, Stream, Plain, stream_at}
 use Rattle.transcript_law.proofs.Words.{Cluster, PlainNode, PlainWorld, PlainLink, link_number, producer_node, consumer_node, vb_in, with_branches, verb_step, world_step, empty_world, Chronicle, empty_chronicle, world_of}
-use Rattle.transcript_law.proofs.{invariant.Agreement.{Agrees, AgreesIn, IsLink, idle, is_down, is_running, vb_of}, invariant.Carried.{link_kept, numbers, stream_opened}, disks.Disks.{power_in}, invariant.Feeding.{AllFed, AllKept}, invariant.LinkRows.{found_is_link, links_apart}, invariant.Numbered.{numbered, numbers_of}}
-use Rattle.transcript_law.proofs.{invariant.Ranged.{IsRanged, start_ranged}, Runs.{group_agrees, group_serves, row_of, start, start_serves}, verbs.Rows.{Row}}
-use Rattle.transcript_law.specs.Feeding.{Has, HasFed, HasIn, HasOpen, HasStream, IsOf, IsOfClient, IsOpenAt, LinksAreFed, StreamsAreFed, client_in}
+use Rattle.transcript_law.proofs.{invariant.Agreement.{Agrees, AgreesIn, FollowsBy, IsLink, idle, is_down, is_running, vb_of}, invariant.Carried.{link_kept, numbers, stream_opened}, disks.Disks.{power_in}, invariant.Feeding.{AllFed, AllKept}, invariant.LinkRows.{found_is_link, links_apart}, invariant.Numbered.{numbered, numbers_of}}
+use Rattle.transcript_law.proofs.{invariant.Ranged.{IsRanged, start_ranged}, Runs.{Along, along, along_start, row_of}, verbs.Rows.{Row}}
+use Rattle.{takeover.specs.declared.take_over.TakeStep.{TakeStep}, vb_calls.specs.Following.{is_follower}, vb_types.specs.declared.role.Role.{Role}}
+use Rattle.transcript_law.specs.Feeding.{FollowsOrOwns, Has, HasFed, HasIn, HasOpen, HasStream, IsOf, IsOfClient, IsOpenAt, LinksAreFed, StreamsAreFed, client_in}
 use Rattle.transcript_law.proofs.invariant.{ClientsTold.{ClientAgrees, KeptIs}, OpenStreams.{Among}}
 use Rattle.transcript_law.specs.ClientFrames.{is_closed_by}
 use Rattle.transcript_law.specs.StreamsTold.{ClientStream}
@@ -59,7 +60,7 @@ module _ (w : PlainWorld) (r : Chronicle) (c : Cluster) (a : AgreesIn idle w r c
   -- an open link's stream is there
   there : (link : PlainLink) → IsLink link w.links → (n v id : ℕ) → IsOf n v id link → HasStream w n v id × (link.consumer.dialed.vb ≡ v)
   there link i n v id of =
-      let (p, is, active, s, opened, own) = stream_opened w r c link [] [] (a.links link i) v id of.stream in (
+      let (p, is, feeds, s, opened, own) = stream_opened w r c link [] [] (a.links link i) v id of.stream in (
         subst (λ m. HasIn (vb_of w m v) id) of.producer (subst (λ q. HasIn (vb_of w (producer_node link) q) id) own (subst (λ x. HasIn x id) (sym is) (found_has id p.streams s opened))),
         own,
       )
@@ -101,10 +102,16 @@ module _ (w : PlainWorld) (r : Chronicle) (c : Cluster) (a : AgreesIn idle w r c
           let p = found_is_link l w.links link is in let q = found_is_link k w.links other has in
           ⊎_elim (λ e. ap name.Link e) (λ ne. absurd ((links_apart link other w.links a.differ p.0 q.0 (λ e. ne (sym p.1 ∙ e ∙ q.1))).stream v id of.stream by.stream (of.producer ∙ sym by.producer))) (numbers l k)
 
+  -- by what its consumer was told last
+  follows_or_owns : (link : PlainLink) (role : Role) (last : Option TakeStep) → link.consumer.taking.last ≡ last → FollowsBy last role → FollowsOrOwns role link
+  follows_or_owns link role None e f = inl (f, λ own. let z : None ≡ Some TakeStep.Own = sym e ∙ own in cc)
+  follows_or_owns link role (Some TakeStep.Pend) e f = inl (ap is_follower f, λ own. let z : ◌≡◌ {A = Option TakeStep} (Some TakeStep.Pend) (Some TakeStep.Own) = sym e ∙ own in cc)
+  follows_or_owns link role (Some TakeStep.Own) e f = inr (f, e)
+
   pub links_are_fed : LinksAreFed w
   links_are_fed = record {
     number = λ l link is. (found_is_link l w.links link is).1;
-    follows = λ l link is. let la = a.links link (found_is_link l w.links link is).0 in (la.follower, la.follower_is, la.follows);
+    follows = λ l link is. let la = a.links link (found_is_link l w.links link is).0 in (la.follower, la.follower_is, follows_or_owns link la.follower.role link.consumer.taking.last refl la.follows);
     runs = λ l link is.
         let i = (found_is_link l w.links link is).0 in let la = a.links link i in let e = a.ends link i in
         (up_of (w.nodes (consumer_node link)) link.consumer.dialed.vb la.follower la.follower_is e.consumer, running (w.nodes (producer_node link)) e.producer);
@@ -114,15 +121,14 @@ module _ (w : PlainWorld) (r : Chronicle) (c : Cluster) (a : AgreesIn idle w r c
   }
 
 -- after more lines
-linked_from : (w : PlainWorld) (r : Chronicle) (script : List ScriptLine) → ScriptFits script → IsRanged w → ConnsAre w r.conn_at → ServesOpen r.last r.conn_at → IsStill r → Agrees w r → AllFed w → StreamsAreFed (world_after w script) × LinksAreFed (world_after w script)
+linked_from : (w : PlainWorld) (r : Chronicle) (script : List ScriptLine) → ScriptFits script → Along w r → AllFed w → StreamsAreFed (world_after w script) × LinksAreFed (world_after w script)
 unfolding world_step
-linked_from w r [] fits ranged are serves calm a fed = (streams_are_fed w r a.0 a.1 fed, links_are_fed w r a.0 a.1)
-linked_from w r (line ∷ lines) fits ranged are serves calm a fed =
-    let fit = All-head (λ (x : ScriptLine). VerbFits x.verb) line lines fits in let outcome = verb_step w line.line line.verb in let row : Row w line.verb outcome = row_of w line.line line.verb in
-    linked_from (with_branches outcome.1.events outcome.0) (after_group (at_line r line.line) line.verb outcome.1.events outcome.1.answer) lines (All-tail (λ (x : ScriptLine). VerbFits x.verb) line lines fits)
-    (row.ranged fit ranged) (line_heard r.conn_at w line.line are line.verb fit).1 (group_serves r line.line line.verb outcome.1.events outcome.1.answer) (tt, refl) (group_agrees w r line.line line.verb fit ranged are serves calm a)
-    (row.fed (record { numbers = numbers_of w.links a.1.differ; fed = fed }) (all_kept w r a.0 a.1))
+linked_from w r [] fits x fed = (streams_are_fed w r x.agrees.0 x.agrees.1 fed, links_are_fed w r x.agrees.0 x.agrees.1)
+linked_from w r (line ∷ lines) fits x fed =
+    let fit = All-head (λ (y : ScriptLine). VerbFits y.verb) line lines fits in let outcome = verb_step w line.line line.verb in let row : Row w line.verb outcome = row_of w line.line line.verb in
+    linked_from (with_branches outcome.1.events outcome.0) (after_group (at_line r line.line) line.verb outcome.1.events outcome.1.answer) lines (All-tail (λ (y : ScriptLine). VerbFits y.verb) line lines fits) (along w r line fit x)
+    (row.fed r x.ranged x.calm x.handed x.agrees (record { numbers = numbers_of w.links x.agrees.1.differ; fed = fed }) (all_kept w r x.agrees.0 x.agrees.1))
 
 -- after a script
 pub streams_linked : (script : List ScriptLine) → ScriptFits script → StreamsAreFed (world_of script) × LinksAreFed (world_of script)
-streams_linked script fits = linked_from empty_world empty_chronicle script fits start_ranged start_conns start_serves (tt, refl) start (λ n node is. cc)
+streams_linked script fits = linked_from empty_world empty_chronicle script fits along_start (λ n node is. cc)

@@ -2,16 +2,20 @@
 use Rattle.std.specs.Prelude.{◌≡◌, ◌⊎◌, if◌then◌else◌}
 use Rattle.transcript_law.proofs.Words.{ℕ, true, false, List, refl, ap, sym, ◌∙◌, subst, inl, inr, ⊎_elim, Some, None, Member, Cluster, Move, SoundCluster, happens, put, keeps, eq-eqb, ne_eqb}
 use Rattle.transcript_law.proofs.Words.{Stream, Plain, Frame, is_active, is_follower, stream_at, row_at, row_put, row_out, PlainLink, link_number, producer_node, consumer_node, PlainWorld, Chronicle}
-use Rattle.transcript_law.proofs.invariant.Carrying.{SameEnds, Became, NoNewStream, BecameOver, Relinked, BusyBut, Changed, Closed, IsApart, ToldOf, TakenOf, StreamsChanged, MemberChanged, FedMember, FeedChanged}
+use Rattle.transcript_law.proofs.invariant.Carrying.{SameEnds, Became, NoNewStream, BecameOver, Relinked, BusyBut, Changed, Closed, IsApart, ToldOf, TakenOf, OthersTold, RoleOf, others_taken, StreamsChanged, MemberChanged, FedMember, FeedChanged}
 use Rattle.transcript_law.proofs.{invariant.Seats.{seat, seats_apart}, invariant.Agreement.{vb_of, VbAgrees, AgreesAt, consumer_seat, producer_seat, LinkAgrees, IsLink, Differ, LinksDiffer, top, Busy, AgreesIn}}
 use Rattle.transcript_law.proofs.{invariant.LinkRows.{found_is_link, links_apart, out_links, differ_out}, invariant.Carried.{places, not_both, fed_same, fed_all, disks_all, KeptVb, kept_same, told_at, taken_at, vb_carried, agrees_carried}}
-use Rattle.transcript_law.proofs.invariant.Carried.{StaysProducer, link_carried, stream_opened, carried, consumer_made, consumers_apart, branches_again, ids_same, kept_streams, no_writer, all_vbs}
-use Rattle.cluster_model.specs.Clusters.{Disk, cut}
+use Rattle.transcript_law.proofs.invariant.Carried.{as_far, StaysProducer, link_carried, stream_opened, carried, carried_by, consumer_made, consumers_apart, branches_again, ids_same, kept_streams, no_writer, all_vbs}
+use Rattle.{cluster_model.specs.Clusters.{Disk, cut}, transcript_law.proofs.invariant.Bounding.{cut_sound}}
 use Rattle.transcript_law.proofs.{invariant.Agreement.{DiskIsIf, EndsUp, RestsIn, VbRow, power_of, shelf_of}, disks.Disks.{SameParts, disk_same, parts_of, same_parts}}
 use Rattle.transcript_law.proofs.{invariant.Agreement.{IsArm, Power, PowerIs, PowerIsIf, clock_of, node_known}, invariant.Carrying.{Rearmed, SameOffs, SamePowers, off_of}, invariant.LinkRows.{put_links}, invariant.Resting.{StillAt, ends_again, ends_off, ends_same, rests_by, rests_with}, invariant.Tables.{id_here, id_there}}
-use Rattle.transcript_law.proofs.invariant.{Carried.{all_there}, Carrying.{SameClients, same_clients}, ClientsKept.{ConnsKept, Every, IsFree, all_kept, changed_only, clients_kept, every_owed, fewer_at, fewer_now, fewer_streams, free_none, goes_follower, link_none, only_kept, spot_at, streams_kept}, LinkFeeds.{feeds_out, feeds_same, link_feeds}, Owed.{Fewer, Owed, fewer_idle, fewer_same}}
-use Rattle.{node_world.specs.declared.arm.Arm.{Arm}, transcript_law.specs.Feeding.{HasOpen}, transcript_law.proofs.invariant.Carried.{numbers}, transcript_law.proofs.Words.{with_id}, transcript_law.specs.Chronicles.{ArmKnown}}
-use Rattle.transcript_law.proofs.invariant.Owing.{later_same}
+use Rattle.transcript_law.proofs.invariant.{Carried.{all_there}, Carrying.{SameClients, same_clients}, ClientsKept.{ConnsKept, Every, IsFree, all_kept, changed_only, clients_kept, every_owed, fewer_at, fewer_now, fewer_streams, free_none, goes_follower, link_none, only_kept, spot_at, streams_kept}, LinkFeeds.{feeds_less, feeds_out, feeds_same, link_feeds}, ClientsTold.{ClientsTold}, ClientsTurned.{RoleTold, clients_turned, none_opened}, Owed.{Fewer, Owed, fewer_idle, fewer_same}}
+use Rattle.{transcript_law.proofs.Words.{IsIn, hist}, transcript_law.specs.ClientStreams.{past_turn, with_clients_of}}
+use Rattle.vb_events.specs.declared.event.StreamName.TheVariants as name
+use Rattle.transcript_law.proofs.invariant.ClientsKept.{goes_agreed_at}
+use Rattle.{node_world.specs.declared.arm.Arm.{Arm}, transcript_law.specs.Feeding.{HasFed, HasOpen, client_in}, transcript_law.proofs.invariant.Carried.{numbers}, transcript_law.proofs.Words.{with_id}, transcript_law.specs.Chronicles.{ArmKnown}}
+use Rattle.transcript_law.proofs.invariant.Owing.{Later, later_same}
+pub use Rattle.transcript_law.proofs.invariant.SameWorld.{carries_armed, carries_rests, carries_same}
 
 -- the cluster with another member at k
 
@@ -81,8 +85,8 @@ module _ (busy : Busy) (w : PlainWorld) (r r' : Chronicle) (c c' : Cluster) (l :
         → LinkAgrees w' r' c' x (busy (link_number x)).0 (busy (link_number x)).1
     quiet_link w' same x i d = link_carried w w' r r' c c' x (busy (link_number x)).0 (busy (link_number x)).1
         (λ fv e. (fv, same (consumer_node x) x.consumer.dialed.vb ∙ e, kept_same fv))
-        (told.dials (link_number x) (other_number x d)) (told.streams (link_number x) x.consumer.dialed.vb (other_number x d)) (told.points (link_number x) (other_number x d)) (fed.changed.others (consumer_seat x) (consumers_apart link x d))
-        (λ p id s e active opened has. (p, same (producer_node x) x.consumer.dialed.vb ∙ e, active, opened, (fed_all (consumer_seat link) c c' fed (producer_seat x)).br))
+        (told.dials (link_number x) (other_number x d)) (told.streams (link_number x) x.consumer.dialed.vb (other_number x d)) (told.states (link_number x) (other_number x d)) (told.points (link_number x) (other_number x d)) (fed.changed.others (consumer_seat x) (consumers_apart link x d))
+        (λ p id s e feeds opened has. let leads = fed_all (consumer_seat link) c c' fed (producer_seat x) in (p, same (producer_node x) x.consumer.dialed.vb ∙ e, refl, opened, leads.br, λ dead. leads.position, as_far leads.position))
         (a.links x i)
 
     module _ (w' : PlainWorld) (links : List PlainLink) (id : ℕ) (pv pv' : Plain) (known : vb_of w (producer_node link) link.consumer.dialed.vb ≡ Some pv) (changed : StreamsChanged id pv pv')
@@ -136,7 +140,7 @@ module _ (busy : Busy) (w : PlainWorld) (r r' : Chronicle) (c c' : Cluster) (l :
 
       producer_streams : (y : PlainLink) → IsLink y w.links → Differ link y → HasOpen link.consumer.dialed.vb id y.server.streams → producer_node link ≡ producer_node y → ⊥
       producer_streams y i d has e =
-          let (p, is, active, s, opened, at) = stream_opened w r c y (busy (link_number y)).0 (busy (link_number y)).1 (a.links y i) link.consumer.dialed.vb id has in
+          let (p, is, feeds, s, opened, at) = stream_opened w r c y (busy (link_number y)).0 (busy (link_number y)).1 (a.links y i) link.consumer.dialed.vb id has in
           let same : p ≡ pv = one_vb w (producer_node y) y.consumer.dialed.vb p pv is (moved_vb w (producer_node link) link.consumer.dialed.vb (producer_node y) y.consumer.dialed.vb pv known (sym e) at) in
           clash y id s d (sym e) (subst (λ (k : Plain). stream_at id k.streams ≡ Some s) same opened) has refl
 
@@ -152,21 +156,23 @@ module _ (busy : Busy) (w : PlainWorld) (r r' : Chronicle) (c c' : Cluster) (l :
 
       producer_stays : (x : PlainLink) → Differ link x
           → StaysProducer (vb_of w (producer_node x) x.consumer.dialed.vb) (vb_of w' (producer_node x) x.consumer.dialed.vb) (c.nodes (producer_seat x)) (c'.nodes (producer_seat x)) x
-      producer_stays x d p k s e active opened has = ⊎_elim
+      producer_stays x d p k s e feeds opened has = ⊎_elim
           (λ t. let same : p ≡ pv = one_vb w (producer_node x) x.consumer.dialed.vb p pv e (moved_vb w (producer_node link) link.consumer.dialed.vb (producer_node x) x.consumer.dialed.vb pv known t.0 t.1) in
           let there : stream_at k pv.streams ≡ Some s = subst (λ (q : Plain). stream_at k q.streams ≡ Some s) same opened in (
             pv',
             moved_vb w' (producer_node link) link.consumer.dialed.vb (producer_node x) x.consumer.dialed.vb pv' became.here t.0 t.1,
-            ap (λ (q : Plain). is_active q.role) changed.alone ∙ subst (λ (q : Plain). is_active q.role ≡ true) same active,
+            ap (λ (q : Plain). q.role) changed.alone ∙ ap (λ (q : Plain). q.role) (sym same),
             changed.others k (clash x k s d t.0 there (subst (λ v. HasOpen v k x.server.streams) t.1 has)) ∙ there,
             (fed_all (consumer_seat link) c c' fed (producer_seat x)).br,
+            λ dead. (fed_all (consumer_seat link) c c' fed (producer_seat x)).position,
+            as_far (fed_all (consumer_seat link) c c' fed (producer_seat x)).position,
           ))
-          (λ o. (p, became.there (producer_node x) x.consumer.dialed.vb o ∙ e, active, opened, (fed_all (consumer_seat link) c c' fed (producer_seat x)).br))
+          (λ o. let leads = fed_all (consumer_seat link) c c' fed (producer_seat x) in (p, became.there (producer_node x) x.consumer.dialed.vb o ∙ e, refl, opened, leads.br, λ dead. leads.position, as_far leads.position))
           (places (producer_node link) link.consumer.dialed.vb (producer_node x) x.consumer.dialed.vb)
 
       producer_other : (x : PlainLink) → IsLink x w.links → Differ link x → LinkAgrees w' r' c' x (busy (link_number x)).0 (busy (link_number x)).1
       producer_other x i d = link_carried w w' r r' c c' x (busy (link_number x)).0 (busy (link_number x)).1 (producer_follower x)
-          (told.dials (link_number x) (other_number x d)) (told.streams (link_number x) x.consumer.dialed.vb (other_number x d)) (told.points (link_number x) (other_number x d)) (fed.changed.others (consumer_seat x) (consumers_apart link x d))
+          (told.dials (link_number x) (other_number x d)) (told.streams (link_number x) x.consumer.dialed.vb (other_number x d)) (told.states (link_number x) (other_number x d)) (told.points (link_number x) (other_number x d)) (fed.changed.others (consumer_seat x) (consumers_apart link x d))
           (producer_stays x d) (a.links x i)
 
 -- the ends of links, where one of them is another between the same ends
@@ -236,12 +242,12 @@ cut_changed k c = record {
   disk = disk_here c.disks k (c.disks k);
 }
 
--- a link's consumer is a member that takes no writes
-pub consumer_quiet : (busy : Busy) (w : PlainWorld) (r : Chronicle) (c : Cluster) (link : PlainLink) (up down : List Frame) → AgreesIn busy w r c → LinkAgrees w r c link up down
+-- the consumer of a link whose vBucket follows is a member that takes no writes
+pub consumer_quiet : (busy : Busy) (w : PlainWorld) (r : Chronicle) (c : Cluster) (link : PlainLink) (up down : List Frame) → AgreesIn busy w r c → (m : LinkAgrees w r c link up down) → is_follower m.follower.role ≡ true
     → (c.nodes (consumer_seat link)).active ≡ false
-consumer_quiet busy w r c link up down a m =
+consumer_quiet busy w r c link up down a m follows =
     let vb = subst (AgreesAt r (consumer_node link) link.consumer.dialed.vb (c.nodes (consumer_seat link))) m.follower_is (a.vbs (consumer_node link) link.consumer.dialed.vb) in
-    vb.member.active ∙ no_writer m.follower.role m.follows
+    vb.member.active ∙ no_writer m.follower.role follows
 
 -- the parts of a step that leaves a link out
 module _ (busy busy' : Busy) (w w' : PlainWorld) (r r' : Chronicle) (c c' : Cluster) (l : ℕ) (link : PlainLink) (a : AgreesIn busy w r c) (found : row_at link_number l w.links ≡ Some link)
@@ -278,7 +284,7 @@ module _ (busy busy' : Busy) (w w' : PlainWorld) (r r' : Chronicle) (c : Cluster
   fed = cut_changed (consumer_seat link) c
 
   sound : SoundCluster top gone
-  sound = keeps top c (Move.Cut (consumer_seat link)) a.sound (consumer_quiet busy w r c link (busy l).0 (busy l).1 a (mine busy w r r' c gone l link a found))
+  sound = cut_sound top c (consumer_seat link) a.sound
 
   -- no vBucket was changed
   same_over : Relinked w w' links → AgreesIn busy' w' r' gone
@@ -306,123 +312,114 @@ pub carries_over : (busy busy' : Busy) (w w' : PlainWorld) (r r' : Chronicle) (c
 carries_over busy busy' w w' r r' c l link a found became told but =
     ⊎_elim (λ same. same_over busy busy' w w' r r' c l link a found told but same) (λ closed. closed_over busy busy' w w' r r' c l link a found told but closed) became
 
--- a world that is the same everywhere, but for its nodes' arms
-pub carries_rests : (busy busy' : Busy) (w w' : PlainWorld) (r : Chronicle) (arms : ℕ → ArmKnown) (clocks : ℕ → ℕ) (c : Cluster)
-    → AgreesIn busy w r c → SameClients w w' → ((n v : ℕ) → vb_of w' n v ≡ vb_of w n v) → ((n v : ℕ) → shelf_of w' n v ≡ shelf_of w n v) → w'.uuids ≡ w.uuids → w'.links ≡ w.links
-    → RestsIn w' (record r { arm_at = arms; clock_at = clocks }) c → ((k : ℕ) → busy' k ≡ busy k) → AgreesIn busy' w' (record r { arm_at = arms; clock_at = clocks }) c
-carries_rests busy busy' w w' r arms clocks c a conns vbs shelves uuids linked rests but = record {
-  sound = a.sound;
-  vbs = λ n v. subst (AgreesAt r n v (c.nodes (seat n v))) (sym (vbs n v)) (a.vbs n v);
-  disks = λ n v. disk_same (vb_of w n v) (vb_of w' n v) refl refl (shelves n v) (subst (SameParts (vb_of w n v)) (sym (vbs n v)) (same_parts (vb_of w n v))) (a.disks n v);
-  branches = branches_again refl refl (ids_same uuids) a.branches;
-  links = λ x i. subst (λ b. LinkAgrees w' (record r { arm_at = arms; clock_at = clocks }) c x b.0 b.1) (sym (but (link_number x)))
-      (link_carried w w' r (record r { arm_at = arms; clock_at = clocks }) c c x (busy (link_number x)).0 (busy (link_number x)).1 (λ fv e. (fv, vbs (consumer_node x) x.consumer.dialed.vb ∙ e, kept_same fv)) refl refl refl refl
-      (λ p id s e active opened has. (p, vbs (producer_node x) x.consumer.dialed.vb ∙ e, active, opened, refl)) (a.links x (subst (IsLink x) linked i)));
-  differ = subst LinksDiffer (sym linked) a.differ;
-  clients = let kept = all_kept w w' r (record r { arm_at = arms; clock_at = clocks }) conns (λ m d. refl) refl (λ n v. refl) vbs in
-      clients_kept w w' r (record r { arm_at = arms; clock_at = clocks }) 0 a.clients (all_there busy w r c a) kept (λ k n v id has. inl (feeds_same w w' linked k n v id has))
-      (every_owed w w' r (record r { arm_at = arms; clock_at = clocks }) kept (later_same _ _ refl refl) (λ n v. fewer_same (vb_of w n v) (vb_of w' n v) (vbs n v)) a.clients.owed);
-  rests = rests;
-}
-
--- and for nothing
-pub carries_same : (busy busy' : Busy) (w w' : PlainWorld) (r : Chronicle) (c : Cluster)
-    → AgreesIn busy w r c → Relinked w w' w.links → ((k : ℕ) → busy' k ≡ busy k) → AgreesIn busy' w' r c
-carries_same busy busy' w w' r c a same but = carries_rests busy busy' w w' r r.arm_at r.clock_at c a (same_clients w w' same.powers) same.vbs same.shelves same.uuids same.linked
-    (rests_by w w' r r c c a.rests same.powers (λ n. refl)
-    (λ n v none. record { vb = sym (same.vbs n v) ∙ none; shelf = same.shelves n v; row = refl; member = refl; disk = refl })
-    (λ n v down. (same.vbs n v ∙ (a.downs n v).vb_none down, same.shelves n v ∙ (a.downs n v).shelf_none down))
-    (λ n v e. e) (λ x i. ends_again w w' x same.powers (a.ends x (subst (IsLink x) same.linked i)))) but
-
--- the node n has another arm
-pub carries_armed : (busy : Busy) (w w' : PlainWorld) (r : Chronicle) (c : Cluster) (n : ℕ) (power : Power) (arm : Arm)
-    → AgreesIn busy w r c → Rearmed w w' n power arm → IsArm arm.fuse → AgreesIn busy w' (record r { arm_at = with_id r.arm_at n (record { fuse = arm.fuse; out = arm.out; down = (r.arm_at n).down }) }) c
-carries_armed busy w w' r c n power arm a same fires =
-    carries_rests busy busy w w' r arms r.clock_at c a same.clients same.vbs same.shelves same.uuids same.linked
-    (rests_with w w' r r' c c a.rests offs powers clocks
-    (λ m v none. record { vb = sym (same.vbs m v) ∙ none; shelf = same.shelves m v; row = refl; member = refl; disk = refl })
-    (λ m v down. (same.vbs m v ∙ (a.downs m v).vb_none down, same.shelves m v ∙ (a.downs m v).shelf_none down))
-    (λ m v e. e) (λ x i. ends_off w w' x x offs (record { dialed = refl; desk = refl }) (a.ends x (subst (IsLink x) same.linked i)))) (λ k. refl)
-  where
-    told : ArmKnown
-    told = record { fuse = arm.fuse; out = arm.out; down = (r.arm_at n).down }
-
-    arms : ℕ → ArmKnown
-    arms = with_id r.arm_at n told
-
-    r' : Chronicle
-    r' = record r { arm_at = arms }
-
-    offs : SameOffs w w'
-    offs m = ⊎_elim
-        (λ e. ap (λ k. off_of (power_of w' k)) e ∙ ap off_of same.armed ∙ sym (ap off_of same.before) ∙ ap (λ k. off_of (power_of w k)) (sym e))
-        (λ ne. ap off_of (same.others m ne))
-        (numbers m n)
-
-    clocks : (m : ℕ) → r.clock_at m ≡ clock_of (power_of w' m)
-    clocks m = a.clocks m ∙ ⊎_elim
-        (λ e. ap (λ k. clock_of (power_of w k)) e ∙ ap clock_of same.before ∙ sym (ap clock_of same.armed) ∙ ap (λ k. clock_of (power_of w' k)) (sym e))
-        (λ ne. ap clock_of (sym (same.others m ne)))
-        (numbers m n)
-
-    was : PowerIs (r.arm_at n) power
-    was = subst (PowerIsIf (r.arm_at n)) same.before (a.powers n)
-
-    powers : (m : ℕ) → PowerIsIf (arms m) (power_of w' m)
-    powers m = ⊎_elim
-        (λ e. subst (λ k. PowerIsIf (arms k) (power_of w' k)) (sym e) (subst (λ t. PowerIsIf t (power_of w' n)) (sym (id_here r.arm_at n told))
-        (subst (PowerIsIf told) (sym same.armed) (record { fuse = refl; out = refl; down = was.down; zero = was.zero; may_fire = fires; listed_so = was.listed_so }))))
-        (λ ne. subst (λ t. PowerIsIf t (power_of w' m)) (sym (id_there r.arm_at n told m (λ e. ne (sym e)))) (subst (PowerIsIf (r.arm_at m)) (sym (same.others m ne)) (a.powers m)))
-        (numbers m n)
-
--- a step at a link's consumer
+-- a step at a link's consumer, whose vBucket follows before it
 
 module _ (busy : Busy) (w w' : PlainWorld) (r r' : Chronicle) (c c' : Cluster) (l : ℕ) (link : PlainLink) (fv fv' : Plain) (links : List PlainLink) (a : AgreesIn busy w r c) (found : row_at link_number l w.links ≡ Some link)
-    (known : vb_of w (consumer_node link) link.consumer.dialed.vb ≡ Some fv) (role_is : fv'.role ≡ fv.role) (streams_are : fv'.streams ≡ fv.streams)
+    (known : vb_of w (consumer_node link) link.consumer.dialed.vb ≡ Some fv) (follows : is_follower fv.role ≡ true)
     (became : Changed w w' (consumer_node link) link.consumer.dialed.vb fv' links)
-    (taken : TakenOf l (consumer_node link) link.consumer.dialed.vb r r') (changed : MemberChanged (consumer_seat link) c c')
+    (beside : OthersTold l (consumer_node link) link.consumer.dialed.vb r r') (others : (n v : ℕ) → (n ≡ consumer_node link → v ≡ link.consumer.dialed.vb → ⊥) → AgreesAt r' n v (c'.nodes (seat n v)) (vb_of w n v)) (changed : MemberChanged (consumer_seat link) c c')
     (agrees : VbAgrees r' (consumer_node link) link.consumer.dialed.vb (c'.nodes (consumer_seat link)) fv')
     (disk : DiskIsIf (r'.disk_at (consumer_node link) link.consumer.dialed.vb) (c'.disks (consumer_seat link)) (shelf_of w' (consumer_node link) link.consumer.dialed.vb) (Some fv')) where
-  follows : is_follower fv.role ≡ true
-  follows =
-      let m = mine busy w r r' c c' l link a found in
-      let same : m.follower ≡ fv = one_vb w (consumer_node link) link.consumer.dialed.vb m.follower fv m.follower_is known in
-      subst (λ (k : Plain). is_follower k.role ≡ true) same m.follows
-
   other_seat : (n v : ℕ) → (n ≡ consumer_node link → v ≡ link.consumer.dialed.vb → ⊥) → seat n v ≡ consumer_seat link → ⊥
   other_seat n v o = seats_apart n v (consumer_node link) link.consumer.dialed.vb o
 
-  other_vb : (n v : ℕ) → (n ≡ consumer_node link → v ≡ link.consumer.dialed.vb → ⊥) → AgreesAt r' n v (c'.nodes (seat n v)) (vb_of w n v)
-  other_vb n v o = subst (λ m. AgreesAt r' n v m (vb_of w n v)) (sym (changed.others (seat n v) (other_seat n v o)))
-      (agrees_carried r r' n v (c.nodes (seat n v)) (c.nodes (seat n v)) (taken_at l (consumer_node link) link.consumer.dialed.vb r r' n v taken o) (fed_same (c.nodes (seat n v))) (vb_of w n v) (λ none. refl) (a.vbs n v))
-
   consumer_vbs : (n v : ℕ) → AgreesAt r' n v (c'.nodes (seat n v)) (vb_of w' n v)
-  consumer_vbs = all_vbs w w' (consumer_node link) link.consumer.dialed.vb fv' (λ n v o. AgreesAt r' n v (c'.nodes (seat n v)) o) became.here became.there agrees other_vb
+  consumer_vbs = all_vbs w w' (consumer_node link) link.consumer.dialed.vb fv' (λ n v o. AgreesAt r' n v (c'.nodes (seat n v)) o) became.here became.there agrees others
 
   other_disk : (n v : ℕ) → (n ≡ consumer_node link → v ≡ link.consumer.dialed.vb → ⊥) → DiskIsIf (r'.disk_at n v) (c'.disks (seat n v)) (shelf_of w' n v) (vb_of w n v)
-  other_disk n v o = disk_same (vb_of w n v) (vb_of w n v) (ap (λ (t : VbRow). t.disk) (taken.rows n v o)) (changed.disks (seat n v) (other_seat n v o)) (became.shelves n v o) (same_parts (vb_of w n v)) (a.disks n v)
+  other_disk n v o = disk_same (vb_of w n v) (vb_of w n v) (ap (λ (t : VbRow). t.disk) (beside.rows n v o)) (changed.disks (seat n v) (other_seat n v o)) (became.shelves n v o) (same_parts (vb_of w n v)) (a.disks n v)
 
   consumer_disks : (n v : ℕ) → DiskIsIf (r'.disk_at n v) (c'.disks (seat n v)) (shelf_of w' n v) (vb_of w' n v)
   consumer_disks = all_vbs w w' (consumer_node link) link.consumer.dialed.vb fv' (λ n v o. DiskIsIf (r'.disk_at n v) (c'.disks (seat n v)) (shelf_of w' n v) o) became.here became.there disk other_disk
 
   -- what rests beside it, where the arms are as they were
-  pub consumer_rests : ((m : ℕ) → node_known r' m ≡ node_known r m) → (r'.disk_at (consumer_node link) link.consumer.dialed.vb).there ≡ (r.disk_at (consumer_node link) link.consumer.dialed.vb).there
+  pub role_rests : ((m : ℕ) → node_known r' m ≡ node_known r m) → (r'.disk_at (consumer_node link) link.consumer.dialed.vb).there ≡ (r.disk_at (consumer_node link) link.consumer.dialed.vb).there
       → ((x : PlainLink) → IsLink x w'.links → EndsUp w' x) → RestsIn w' r' c'
-  consumer_rests arms same ends = rests_by w w' r r' c c' a.rests became.powers arms
+  role_rests arms same ends = rests_by w w' r r' c c' a.rests became.powers arms
       (λ n v none. ⊎_elim (λ s. let z : Some fv' ≡ None = sym (moved_vb w' (consumer_node link) link.consumer.dialed.vb n v fv' became.here s.0 s.1) ∙ none in cc)
-      (λ o. record { vb = sym (became.there n v o) ∙ none; shelf = became.shelves n v o; row = taken.rows n v o; member = changed.others (seat n v) (other_seat n v o); disk = changed.disks (seat n v) (other_seat n v o) }) (places (consumer_node link) link.consumer.dialed.vb n v))
+      (λ o. record { vb = sym (became.there n v o) ∙ none; shelf = became.shelves n v o; row = beside.rows n v o; member = changed.others (seat n v) (other_seat n v o); disk = changed.disks (seat n v) (other_seat n v o) }) (places (consumer_node link) link.consumer.dialed.vb n v))
       (λ n v down. ⊎_elim (λ s. let z : Some fv ≡ None = sym (moved_vb w (consumer_node link) link.consumer.dialed.vb n v fv known s.0 s.1) ∙ (a.downs n v).vb_none down in cc)
       (λ o. (became.there n v o ∙ (a.downs n v).vb_none down, became.shelves n v o ∙ (a.downs n v).shelf_none down)) (places (consumer_node link) link.consumer.dialed.vb n v))
       (λ n v e. ⊎_elim (λ s. ap (λ x. (r.disk_at x v).there) s.0 ∙ ap (λ y. (r.disk_at (consumer_node link) y).there) s.1 ∙ sym same ∙ sym (ap (λ x. (r'.disk_at x v).there) s.0 ∙ ap (λ y. (r'.disk_at (consumer_node link) y).there) s.1) ∙ e)
-      (λ o. ap (λ (t : VbRow). t.disk.there) (sym (taken.rows n v o)) ∙ e) (places (consumer_node link) link.consumer.dialed.vb n v))
+      (λ o. ap (λ (t : VbRow). t.disk.there) (sym (beside.rows n v o)) ∙ e) (places (consumer_node link) link.consumer.dialed.vb n v))
       ends
 
   consumer_stays : (x : PlainLink) → StaysProducer (vb_of w (producer_node x) x.consumer.dialed.vb) (vb_of w' (producer_node x) x.consumer.dialed.vb) (c.nodes (producer_seat x)) (c'.nodes (producer_seat x)) x
-  consumer_stays x p id s e active opened has = ⊎_elim
+  consumer_stays x p id s e feeds opened has = ⊎_elim
       (λ t. let same : p ≡ fv = one_vb w (producer_node x) x.consumer.dialed.vb p fv e (moved_vb w (consumer_node link) link.consumer.dialed.vb (producer_node x) x.consumer.dialed.vb fv known t.0 t.1) in
-      absurd (not_both fv.role (subst (λ (k : Plain). is_active k.role ≡ true) same active) follows))
-      (λ o. (p, became.there (producer_node x) x.consumer.dialed.vb o ∙ e, active, opened, ap (λ (m : Member). m.br) (changed.others (producer_seat x) (other_seat (producer_node x) x.consumer.dialed.vb o))))
+      let z : false ≡ true = sym feeds ∙ ap (λ (k : Plain). is_follower k.role) same ∙ follows in cc)
+      (λ o. let far = changed.others (producer_seat x) (other_seat (producer_node x) x.consumer.dialed.vb o) in
+      (p, became.there (producer_node x) x.consumer.dialed.vb o ∙ e, refl, opened, ap (λ (m : Member). m.br) far, λ dead. ap (λ (m : Member). m.position) far, as_far (ap (λ (m : Member). m.position) far)))
       (places (consumer_node link) link.consumer.dialed.vb (producer_node x) x.consumer.dialed.vb)
+
+  apart_dial : (x : PlainLink) → IsLink x w.links → Differ link x → IsApart (consumer_node link) link.consumer.dialed.vb (r.dial_of (link_number x))
+  apart_dial x i d = subst (IsApart (consumer_node link) link.consumer.dialed.vb) (sym (a.links x i).dialed) (λ s t. d.follower (sym s) (sym t))
+
+  consumer_other : (x : PlainLink) → IsLink x w.links → Differ link x → LinkAgrees w' r' c' x (busy (link_number x)).0 (busy (link_number x)).1
+  consumer_other x i d = link_carried w w' r r' c c' x (busy (link_number x)).0 (busy (link_number x)).1
+      (λ v e. (v, became.there (consumer_node x) x.consumer.dialed.vb (λ s t. d.follower (sym s) (sym t)) ∙ e, kept_same v))
+      (beside.dials (link_number x) (other_number busy w r r' c c' l link a found x d)) (beside.streams (link_number x) x.consumer.dialed.vb (other_number busy w r r' c c' l link a found x d) (apart_dial x i d))
+      (beside.states (link_number x) (other_number busy w r r' c c' l link a found x d)) (beside.points (link_number x) (other_number busy w r r' c c' l link a found x d) (apart_dial x i d))
+      (changed.others (consumer_seat x) (consumers_apart link x d)) (consumer_stays x) (a.links x i)
+
+-- it gets a role: no stream of a client was open at it, and none is
+role_clients : (busy : Busy) (w w' : PlainWorld) (r r' : Chronicle) (c c' : Cluster) (n v : ℕ) (fv fv' : Plain) (links : List PlainLink) → AgreesIn busy w r c → vb_of w n v ≡ Some fv → is_follower fv.role ≡ true → Fewer (Some fv) (Some fv') → Changed w w' n v fv' links
+    → Later r r' → r'.tree ≡ r.tree → ((m d : ℕ) → r'.clients_at m d ≡ with_clients_of r.clients_at n (past_turn v (r.held n v)) m d)
+    → ((m q : ℕ) → (m ≡ n → q ≡ v → ⊥) → AgreesAt r' m q (c'.nodes (seat m q)) (vb_of w m q)) → ((m q : ℕ) → (m ≡ n → q ≡ v → ⊥) → c'.nodes (seat m q) ≡ c.nodes (seat m q))
+    → ((k m q id : ℕ) → HasFed w' (name.Link k) m q id → HasFed w (name.Link k) m q id) → ClientsTold w' r'
+role_clients busy w w' r r' c c' n v fv fv' links a known follows fewer became last tree clients others members feeds =
+    clients_turned w w' r r' n v a.clients told (all_there busy w r c a) feeds last (fewer_at w w' n v became.there (fewer_now w w' n v fv fv' known became.here fewer))
+  where
+    quiet : (vb : Plain) → vb_of w n v ≡ Some vb → is_active vb.role ≡ false
+    quiet vb e = let z : Some vb ≡ Some fv = sym e ∙ known in let same : vb ≡ fv = cc in ap (λ (k : Plain). is_active k.role) same ∙ no_writer fv.role follows
+
+    told : RoleTold w w' r r' n v
+    told = record {
+      here = λ d client' is. let was : client_in (w.nodes n) d ≡ Some client' = sym (same_clients w w' became.powers n d) ∙ is in (client', was, none_opened w r n v d client' quiet (a.clients.each n d client' was));
+      there = λ m d ne. same_clients w w' became.powers m d;
+      known = clients;
+      goes = λ m q o d id has.
+          let same = members m q o in
+          goes_agreed_at w w' r r' m q id (c.nodes (seat m q)) (c'.nodes (seat m q)) (vb_of w m q) refl (became.there m q o) (a.vbs m q) (others m q o)
+          (ap (λ (x : Member). x.br) same) (λ x i. subst (λ (y : Member). IsIn x y.held) (sym same) i) (λ x. ap (λ t. hist t (c.nodes (seat m q)).br) tree);
+    }
+
+pub carries_turned : (busy busy' : Busy) (w w' : PlainWorld) (r r' : Chronicle) (c c' : Cluster) (l : ℕ) (link link' : PlainLink) (fv fv' : Plain)
+    → AgreesIn busy w r c → row_at link_number l w.links ≡ Some link → SameEnds link link'
+    → vb_of w (consumer_node link) link.consumer.dialed.vb ≡ Some fv → is_follower fv.role ≡ true → Fewer (Some fv) (Some fv')
+    → Became w w' (consumer_node link) link.consumer.dialed.vb fv' l link' → NoNewStream link link'
+    → RoleOf l (consumer_node link) link.consumer.dialed.vb r r' → ((n v : ℕ) → (n ≡ consumer_node link → v ≡ link.consumer.dialed.vb → ⊥) → AgreesAt r' n v (c'.nodes (seat n v)) (vb_of w n v))
+    → MemberChanged (consumer_seat link) c c' → SoundCluster top c' → BusyBut l busy busy'
+    → VbAgrees r' (consumer_node link) link.consumer.dialed.vb (c'.nodes (consumer_seat link)) fv'
+    → DiskIsIf (r'.disk_at (consumer_node link) link.consumer.dialed.vb) (c'.disks (consumer_seat link)) (shelf_of w' (consumer_node link) link.consumer.dialed.vb) (Some fv')
+    → RestsIn w' r' c' → LinkAgrees w' r' c' link' (busy' l).0 (busy' l).1 → AgreesIn busy' w' r' c'
+carries_turned busy busy' w w' r r' c c' l link link' fv fv' a found same known follows fewer became less taken others changed sound but vb disk rests agrees =
+    let links = row_put link_number l link' w.links in let n = consumer_node link in let v = link.consumer.dialed.vb in
+    carried_by busy busy' w w' r r' c c' l link link' a found same
+    (consumer_vbs busy w w' r r' c c' l link fv fv' links a found known follows became taken.beside others changed vb disk)
+    (consumer_disks busy w w' r r' c c' l link fv fv' links a found known follows became taken.beside others changed vb disk)
+    changed.tree taken.tree became.uuids became.linked sound but
+    (consumer_other busy w w' r r' c c' l link fv fv' links a found known follows became taken.beside others changed vb disk)
+    (λ y i d q id s. d.stream q id (less q id s))
+    (role_clients busy w w' r r' c c' n v fv fv' links a known follows fewer became taken.last taken.tree taken.clients others (λ m q o. changed.others (seat m q) (seats_apart m q n v o)) (feeds_less w w' l link link' a.differ found same became.linked less))
+    rests
+    agrees
+
+-- a step after which it follows as before, and clients are told as before
+
+module _ (busy : Busy) (w w' : PlainWorld) (r r' : Chronicle) (c c' : Cluster) (l : ℕ) (link : PlainLink) (fv fv' : Plain) (links : List PlainLink) (a : AgreesIn busy w r c) (found : row_at link_number l w.links ≡ Some link)
+    (known : vb_of w (consumer_node link) link.consumer.dialed.vb ≡ Some fv) (follows : is_follower fv.role ≡ true) (follows' : is_follower fv'.role ≡ true)
+    (became : Changed w w' (consumer_node link) link.consumer.dialed.vb fv' links)
+    (taken : TakenOf l (consumer_node link) link.consumer.dialed.vb r r') (changed : MemberChanged (consumer_seat link) c c')
+    (agrees : VbAgrees r' (consumer_node link) link.consumer.dialed.vb (c'.nodes (consumer_seat link)) fv')
+    (disk : DiskIsIf (r'.disk_at (consumer_node link) link.consumer.dialed.vb) (c'.disks (consumer_seat link)) (shelf_of w' (consumer_node link) link.consumer.dialed.vb) (Some fv')) where
+  other_vb : (n v : ℕ) → (n ≡ consumer_node link → v ≡ link.consumer.dialed.vb → ⊥) → AgreesAt r' n v (c'.nodes (seat n v)) (vb_of w n v)
+  other_vb n v o = subst (λ m. AgreesAt r' n v m (vb_of w n v)) (sym (changed.others (seat n v) (seats_apart n v (consumer_node link) link.consumer.dialed.vb o)))
+      (agrees_carried r r' n v (c.nodes (seat n v)) (c.nodes (seat n v)) (taken_at l (consumer_node link) link.consumer.dialed.vb r r' n v taken o) (fed_same (c.nodes (seat n v))) (vb_of w n v) (λ none. refl) (a.vbs n v))
+
+  pub consumer_rests : ((m : ℕ) → node_known r' m ≡ node_known r m) → (r'.disk_at (consumer_node link) link.consumer.dialed.vb).there ≡ (r.disk_at (consumer_node link) link.consumer.dialed.vb).there
+      → ((x : PlainLink) → IsLink x w'.links → EndsUp w' x) → RestsIn w' r' c'
+  consumer_rests = role_rests busy w w' r r' c c' l link fv fv' links a found known follows became (others_taken taken) other_vb changed agrees disk
 
   -- a vBucket that follows has no stream of a client
   consumer_conns : ConnsKept Every w w' r r'
@@ -434,51 +431,41 @@ module _ (busy : Busy) (w w' : PlainWorld) (r r' : Chronicle) (c c' : Cluster) (
   consumer_owed : Owed w' r'
   consumer_owed = every_owed w w' r r' consumer_conns taken.last
       (fewer_at w w' (consumer_node link) link.consumer.dialed.vb became.there (subst (Fewer (vb_of w (consumer_node link) link.consumer.dialed.vb)) (sym became.here)
-      (fewer_idle (vb_of w (consumer_node link) link.consumer.dialed.vb) fv' agrees.sound (ap is_follower role_is ∙ follows)))) a.clients.owed
+      (fewer_idle (vb_of w (consumer_node link) link.consumer.dialed.vb) fv' agrees.sound follows'))) a.clients.owed
 
-  apart_dial : (x : PlainLink) → IsLink x w.links → Differ link x → IsApart (consumer_node link) link.consumer.dialed.vb (r.dial_of (link_number x))
-  apart_dial x i d = subst (IsApart (consumer_node link) link.consumer.dialed.vb) (sym (a.links x i).dialed) (λ s t. d.follower (sym s) (sym t))
-
-  consumer_other : (x : PlainLink) → IsLink x w.links → Differ link x → LinkAgrees w' r' c' x (busy (link_number x)).0 (busy (link_number x)).1
-  consumer_other x i d = link_carried w w' r r' c c' x (busy (link_number x)).0 (busy (link_number x)).1
-      (λ v e. (v, became.there (consumer_node x) x.consumer.dialed.vb (λ s t. d.follower (sym s) (sym t)) ∙ e, kept_same v))
-      (taken.dials (link_number x) (other_number busy w r r' c c' l link a found x d)) (taken.streams (link_number x) x.consumer.dialed.vb (other_number busy w r r' c c' l link a found x d) (apart_dial x i d))
-      (taken.points (link_number x) (other_number busy w r r' c c' l link a found x d) (apart_dial x i d))
-      (changed.others (consumer_seat x) (consumers_apart link x d)) (consumer_stays x) (a.links x i)
-
--- a step at a link's consumer
 pub carries_consumer : (busy busy' : Busy) (w w' : PlainWorld) (r r' : Chronicle) (c c' : Cluster) (l : ℕ) (link link' : PlainLink) (fv fv' : Plain)
     → AgreesIn busy w r c → row_at link_number l w.links ≡ Some link → SameEnds link link'
-    → vb_of w (consumer_node link) link.consumer.dialed.vb ≡ Some fv → fv'.role ≡ fv.role → fv'.streams ≡ fv.streams
+    → vb_of w (consumer_node link) link.consumer.dialed.vb ≡ Some fv → is_follower fv.role ≡ true → is_follower fv'.role ≡ true
     → Became w w' (consumer_node link) link.consumer.dialed.vb fv' l link' → NoNewStream link link'
     → TakenOf l (consumer_node link) link.consumer.dialed.vb r r' → MemberChanged (consumer_seat link) c c' → SoundCluster top c' → BusyBut l busy busy'
     → VbAgrees r' (consumer_node link) link.consumer.dialed.vb (c'.nodes (consumer_seat link)) fv'
     → DiskIsIf (r'.disk_at (consumer_node link) link.consumer.dialed.vb) (c'.disks (consumer_seat link)) (shelf_of w' (consumer_node link) link.consumer.dialed.vb) (Some fv')
     → RestsIn w' r' c' → LinkAgrees w' r' c' link' (busy' l).0 (busy' l).1 → AgreesIn busy' w' r' c'
-carries_consumer busy busy' w w' r r' c c' l link link' fv fv' a found same known role_is streams_are became less taken changed sound but vb disk rests agrees =
+carries_consumer busy busy' w w' r r' c c' l link link' fv fv' a found same known follows follows' became less taken changed sound but vb disk rests agrees =
+    let links = row_put link_number l link' w.links in let others = other_vb busy w w' r r' c c' l link fv fv' links a found known follows follows' became taken changed vb disk in
     carried busy busy' w w' r r' c c' l link link' a found same
-    (consumer_vbs busy w w' r r' c c' l link fv fv' (row_put link_number l link' w.links) a found known role_is streams_are became taken changed vb disk)
-    (consumer_disks busy w w' r r' c c' l link fv fv' (row_put link_number l link' w.links) a found known role_is streams_are became taken changed vb disk)
+    (consumer_vbs busy w w' r r' c c' l link fv fv' links a found known follows became (others_taken taken) others changed vb disk)
+    (consumer_disks busy w w' r r' c c' l link fv fv' links a found known follows became (others_taken taken) others changed vb disk)
     changed.tree taken.tree became.uuids became.linked sound but
-    (consumer_other busy w w' r r' c c' l link fv fv' (row_put link_number l link' w.links) a found known role_is streams_are became taken changed vb disk)
+    (consumer_other busy w w' r r' c c' l link fv fv' links a found known follows became (others_taken taken) others changed vb disk)
     (λ y i d v id s. d.stream v id (less v id s))
-    (consumer_conns busy w w' r r' c c' l link fv fv' (row_put link_number l link' w.links) a found known role_is streams_are became taken changed vb disk) (λ v id s. inl (less v id s))
+    (consumer_conns busy w w' r r' c c' l link fv fv' links a found known follows follows' became taken changed vb disk) (λ v id s. inl (less v id s))
     rests
     agrees
-    (consumer_owed busy w w' r r' c c' l link fv fv' (row_put link_number l link' w.links) a found known role_is streams_are became taken changed vb disk)
+    (consumer_owed busy w w' r r' c c' l link fv fv' links a found known follows follows' became taken changed vb disk)
 
--- a step at a link's consumer, with which the link is over; it has no stream that is open
+-- a step with which the link is over; it has no stream that is open
 pub carries_left : (busy busy' : Busy) (w w' : PlainWorld) (r r' : Chronicle) (c c' : Cluster) (l : ℕ) (link : PlainLink) (fv fv' : Plain)
-    → AgreesIn busy w r c → row_at link_number l w.links ≡ Some link → vb_of w (consumer_node link) link.consumer.dialed.vb ≡ Some fv → fv'.role ≡ fv.role → fv'.streams ≡ fv.streams
+    → AgreesIn busy w r c → row_at link_number l w.links ≡ Some link → vb_of w (consumer_node link) link.consumer.dialed.vb ≡ Some fv → is_follower fv.role ≡ true → is_follower fv'.role ≡ true
     → Changed w w' (consumer_node link) link.consumer.dialed.vb fv' (row_out link_number (link_number link) w.links)
     → TakenOf l (consumer_node link) link.consumer.dialed.vb r r' → MemberChanged (consumer_seat link) c c' → SoundCluster top c' → BusyBut l busy busy'
     → VbAgrees r' (consumer_node link) link.consumer.dialed.vb (c'.nodes (consumer_seat link)) fv'
     → DiskIsIf (r'.disk_at (consumer_node link) link.consumer.dialed.vb) (c'.disks (consumer_seat link)) (shelf_of w' (consumer_node link) link.consumer.dialed.vb) (Some fv') → RestsIn w' r' c' → AgreesIn busy' w' r' c'
-carries_left busy busy' w w' r r' c c' l link fv fv' a found known role_is streams_are became taken changed sound but vb disk rests =
-    let links = row_out link_number (link_number link) w.links in
+carries_left busy busy' w w' r r' c c' l link fv fv' a found known follows follows' became taken changed sound but vb disk rests =
+    let links = row_out link_number (link_number link) w.links in let others = other_vb busy w w' r r' c c' l link fv fv' links a found known follows follows' became taken changed vb disk in
     left_out busy busy' w w' r r' c c' l link a found taken.tree changed.tree sound but
-    (consumer_vbs busy w w' r r' c c' l link fv fv' links a found known role_is streams_are became taken changed vb disk)
-    (consumer_disks busy w w' r r' c c' l link fv fv' links a found known role_is streams_are became taken changed vb disk) became.uuids became.linked
-    (consumer_other busy w w' r r' c c' l link fv fv' links a found known role_is streams_are became taken changed vb disk)
-    (consumer_conns busy w w' r r' c c' l link fv fv' links a found known role_is streams_are became taken changed vb disk) rests
-    (consumer_owed busy w w' r r' c c' l link fv fv' links a found known role_is streams_are became taken changed vb disk)
+    (consumer_vbs busy w w' r r' c c' l link fv fv' links a found known follows became (others_taken taken) others changed vb disk)
+    (consumer_disks busy w w' r r' c c' l link fv fv' links a found known follows became (others_taken taken) others changed vb disk) became.uuids became.linked
+    (consumer_other busy w w' r r' c c' l link fv fv' links a found known follows became (others_taken taken) others changed vb disk)
+    (consumer_conns busy w w' r r' c c' l link fv fv' links a found known follows follows' became taken changed vb disk) rests
+    (consumer_owed busy w w' r r' c c' l link fv fv' links a found known follows follows' became taken changed vb disk)

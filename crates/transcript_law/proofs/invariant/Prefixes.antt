@@ -17,7 +17,7 @@ use Rattle.transcript_law.proofs.Words.{PlainWorld, empty_world, with_branches, 
 use Rattle.transcript_law.proofs.Words.{PlainNode, is_some, world_of, known_of, FollowsBranch, AreFollowed, Bool, false}
 use Rattle.transcript_law.proofs.Words.{branch}
 use Rattle.transcript_law.proofs.{invariant.Agreement.{vb_of, BranchAgrees, Writes, WritesIf, VbAgrees, AgreesAt, top}}
-use Rattle.transcript_law.proofs.{invariant.Agreement.{idle, AgreesIn, Agrees}, invariant.AtRest.{AreAtRest, line_rests, start_rests}, invariant.Ranged.{IsRanged, NodeRangedIf, start_ranged}, lines.SessionLines.{IsKept}, Runs.{group_agrees, group_serves, row_of, start, start_serves}, verbs.Rows.{Row}, invariant.Seats.{seat}, invariant.Agreement.{image_is}, verbs.Showing.{history_by, same_image}}
+use Rattle.transcript_law.proofs.{invariant.Agreement.{idle, AgreesIn, Agrees}, invariant.AtRest.{AreAtRest, line_rests, start_rests}, invariant.Ranged.{IsRanged, NodeRangedIf, start_ranged}, lines.SessionLines.{IsKept}, Runs.{Along, along, along_lawful, along_start, row_of}, verbs.Rows.{Row}, invariant.Seats.{seat}, invariant.Agreement.{image_is}, verbs.Showing.{history_by, same_image}}
 use Rattle.transcript_law.proofs.{invariant.Tables.{if_known}, invariant.Trees.{told_below}, verbs.Writing.{forks_below}}
 use Rattle.{branch_model.specs.Snapshots.{Follows}, cluster_model.specs.Clusters.{IsBranch}}
 use Rattle.{transcript_law.specs.Lawfulness.{IsWriter}, transcript_law.specs.Prefixes.{world_after}}
@@ -171,20 +171,19 @@ abbrev AwaitedAfter : PlainWorld → Chronicle → List ScriptLine → Type 0
 AwaitedAfter w r script = let told : Chronicle = known_after r script (groups_from w script) in AwaitTheirOwnIf told.last told (world_after w script)
 
 -- after more lines
-followed_from : (w : PlainWorld) (r : Chronicle) (script : List ScriptLine) → ScriptFits script → IsRanged w → ConnsAre w r.conn_at → ServesOpen r.last r.conn_at → AreAtRest w → IsStill r → Agrees w r → Entered r → AwaitedAfter w r script
+followed_from : (w : PlainWorld) (r : Chronicle) (script : List ScriptLine) → ScriptFits script → Along w r → AreAtRest w → Entered r → AwaitedAfter w r script
     → AreFollowed (known_after r script (groups_from w script)) (world_after w script)
 unfolding world_step
-followed_from w r [] fits ranged are serves rest calm a entered awaited = are_followed w r a.0 a.1 entered rest ranged awaited
-followed_from w r (line ∷ lines) fits ranged are serves rest calm a entered awaited =
+followed_from w r [] fits x rest entered awaited = are_followed w r x.agrees.0 x.agrees.1 entered rest x.ranged awaited
+followed_from w r (line ∷ lines) fits x rest entered awaited =
     let fit = All-head (λ (x : ScriptLine). VerbFits x.verb) line lines fits in let outcome = verb_step w line.line line.verb in let row : Row w line.verb outcome = row_of w line.line line.verb in
-    let r0 : Chronicle = at_line r line.line in let a0 : Agrees w r0 = numbered w r line.line a in
-    let went = row.goes r0 fit ranged calm (begins_of w line.line line.verb r are serves a.1.clients.owed) a0 in
-    let r' : Chronicle = after_group r0 line.verb outcome.1.events outcome.1.answer in let now = group_agrees w r line.line line.verb fit ranged are serves calm a in
-    let entries = row.entered r0 (after_lines (ahead r0 line.verb outcome.1.answer) outcome.1.events) (lines_entered (ahead r0 line.verb outcome.1.answer) outcome.1.events (ahead_entered r0 line.verb outcome.1.answer (record { disks = entered.disks; logs = entered.logs; streams = entered.streams })) went.0) in
-    followed_from (with_branches outcome.1.events outcome.0) r' lines (All-tail (λ (x : ScriptLine). VerbFits x.verb) line lines fits) (row.ranged fit ranged) (line_heard r.conn_at w line.line are line.verb fit).1 (group_serves r line.line line.verb outcome.1.events outcome.1.answer)
-    (line_rests w r outcome (row.rests r ranged a) a rest (with_branches outcome.1.events outcome.0) r' refl now) (tt, refl) now
+    let r0 : Chronicle = at_line r line.line in
+    let r' : Chronicle = after_group r0 line.verb outcome.1.events outcome.1.answer in let now = along w r line fit x in
+    let entries = row.entered r0 (after_lines (ahead r0 line.verb outcome.1.answer) outcome.1.events) (lines_entered (ahead r0 line.verb outcome.1.answer) outcome.1.events (ahead_entered r0 line.verb outcome.1.answer (record { disks = entered.disks; logs = entered.logs; streams = entered.streams })) (along_lawful w r line fit x)) in
+    followed_from (with_branches outcome.1.events outcome.0) r' lines (All-tail (λ (x : ScriptLine). VerbFits x.verb) line lines fits) now
+    (line_rests w r outcome (row.rests r x.ranged x.handed x.agrees) x.agrees rest (with_branches outcome.1.events outcome.0) r' refl now.agrees)
     (record { disks = entries.disks; logs = entries.logs; streams = entries.streams }) awaited
 
 -- after a script
 pub branches_followed : (script : List ScriptLine) → ScriptFits script → AreFollowed (known_of script) (world_of script)
-branches_followed script fits = followed_from empty_world empty_chronicle script fits start_ranged start_conns start_serves (start_rests empty_world (λ n. refl)) (tt, refl) start start_entered (script_awaits script fits)
+branches_followed script fits = followed_from empty_world empty_chronicle script fits along_start (start_rests empty_world (λ n. refl)) start_entered (script_awaits script fits)

@@ -240,7 +240,7 @@ up_ranged n wanted link node ranged =
 -- lines that change a role
 
 -- outcomes that are posted at the node n
-posts_in_ranged : (n : ℕ) (rs : List Resolved) (o : Outcome) → IsRanged o.0 → IsRanged (posted_in n rs o).0
+pub posts_in_ranged : (n : ℕ) (rs : List Resolved) (o : Outcome) → IsRanged o.0 → IsRanged (posted_in n rs o).0
 posts_in_ranged n rs o ranged = by (o.0.nodes n) (ranged n)
   where
     by : (k : Option PlainNode) → NodeRangedIf n k → IsRanged (posted_at n rs o.0 o.1 k).0

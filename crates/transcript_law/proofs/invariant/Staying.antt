@@ -2,27 +2,29 @@
 use Rattle.std.specs.Prelude.{◌==◌, if◌then◌else◌}
 use Rattle.std.proofs.Common.{◌≡◌, ℕ, Bool, true, false, List, [], ◌∷◌, take, refl, ap, sym, ◌∙◌, subst, Option, Some, None, is_some, option_map}
 use Rattle.std.proofs.lemmas.Bool.{eqb-true}
-use Rattle.dcp_producer.specs.Ending.{end_closed}
+use Rattle.dcp_producer.specs.{Ending.{end_closed}, declared.yields.Yielded.{Yielded}}
 use Rattle.disk_journals.specs.Arms.{arm_over, armed_at, under}
 use Rattle.mcbp_frame.specs.declared.frame.Frame.{Frame}
 use Rattle.node_core.specs.Admin.{admin_job}
 use Rattle.node_core.specs.Clients.{PlainClient, client_fed, client_posted, new_client}
 use Rattle.node_core.specs.Dials.{dial_bytes, dial_due}
-use Rattle.node_core.specs.Flushing.{flush_at}
+use Rattle.node_core.specs.{Flushing.{flush_at}, GivingUp.{dead_line, peer_gives_up, resolved_in}}
+use Rattle.std.specs.List.{flat_map}
+use Rattle.std.specs.Prelude.{map}
 use Rattle.node_core.specs.Peers.{PeerResult, peer_answered, peer_frames, peer_heard, peer_pulled}
 use Rattle.node_core.specs.declared.admin.AdminCall.{AdminCall}
 use Rattle.node_world.proofs.AfterPosts.{posts_arm, posts_leave, posts_shelves}
 use Rattle.node_world.proofs.Resting.{job_rests}
 use Rattle.node_world.specs.Arms.{fired_by, fuse_or, placed, under_arm}
-use Rattle.node_world.specs.Cuts.{closed_at, own_link, unlinked}
+use Rattle.node_world.specs.Cuts.{closed_at, links_ended, own_link, unlinked}
 use Rattle.node_world.specs.Dues.{due_at, due_in, due_of, is_counted}
 use Rattle.node_world.specs.Links.{PlainLink, LinkResult, dial_of, down_at, frame_up, frames_up, link_number, moved_len, peer_of, producer_node, consumer_node, pump_at, untold_peer, up_at}
 use Rattle.node_world.specs.Nodes.{PlainNode, all_posted, awaiting, bytes_at, bytes_if, client_at, done, flush_line, if_up, posted, posted_if, posted_to, refusal, refused_or, save_line, with_client, with_kept, with_states}
 use Rattle.node_world.specs.Power.{after_broken, after_fire, is_broken_answer, with_arm, with_broken}
 use Rattle.node_world.specs.Rests.{RestsIf}
-use Rattle.node_world.specs.Turns.{admin_line}
-use Rattle.node_world.specs.World.{down_in, down_outcome, down_step, link_outcome, on_link, relinked}
-use Rattle.node_world.specs.Worlds.{PlainWorld, Outcome, arm_in, node_if, node_outcome, on_node, vb_in, with_node_at}
+use Rattle.node_world.specs.{Nodes.{with_clients_ended}, Pumps.{gives_at, with_given, with_gone}, Turns.{admin_line, posted_at, posted_in, with_ended}}
+use Rattle.node_world.specs.World.{down_in, down_outcome, down_step, link_outcome, on_link, pump_outcome, pump_step, relinked}
+use Rattle.node_world.specs.Worlds.{PlainWorld, Outcome, arm_in, node_if, node_outcome, on_node, vb_in, with_links, with_node_at}
 use Rattle.node_world.specs.declared.script_node.TheConstants.{MAX_CLIENTS}
 use Rattle.node_world.specs.declared.told.Told.{Told}
 use Rattle.vb_calls.specs.Jobs.{Job, after_job}
@@ -167,7 +169,7 @@ pub up_stays : (wanted : ℕ) (link : PlainLink) (node : PlainNode) → Stays no
 up_stays wanted link node =
     let piece = take (moved_len wanted link.up) link.up in frames_stay (peer_frames piece (peer_of link)) (node, untold_peer (peer_heard piece (peer_of link)))
 
-pub pump_stays : (frames : ℕ) (link : PlainLink) (node : PlainNode) → Stays node (pump_at frames link node).0
+pump_stays : (frames : ℕ) (link : PlainLink) (node : PlainNode) → Stays node (pump_at frames link node).0
 pump_stays frames link node = vbs_stay node (pump_at frames link node).0 refl refl refl (ran_keeps (peer_pulled frames (peer_of link)) node.vbs)
 
 down_stays : (wanted : ℕ) (link : PlainLink) (node : PlainNode) → Stays node (down_at wanted link node).0
@@ -282,6 +284,42 @@ module _ (n v : ℕ) where
       by (Some link) =
           let came = node_outcome w (end link) (Some link, refusal cause.UnknownNode) (w.nodes (end link)) (f link) in
           left link came.0 came.1.0 (made_here w (end link) (Some link, refusal cause.UnknownNode) (f link) here (stays link))
+
+  -- vBuckets that are given up, and outcomes that are posted
+  ended_here : (w : PlainWorld) (m q : ℕ) (ids : List ℕ) → Here n v w → Here n v (with_ended m q ids w)
+  ended_here w m q ids here = by (w.nodes m) refl
+    where
+      by : (o : Option PlainNode) → w.nodes m ≡ o → Here n v (with_links (node_if m (with_clients_ended q ids) w o) (links_ended m q ids w.links))
+      by None at = nodes_here w (with_links w (links_ended m q ids w.links)) refl here
+      by (Some node) at =
+          let now : PlainWorld = with_node_at w m (with_clients_ended q ids node) in
+          nodes_here now (with_links now (links_ended m q ids w.links)) refl (put_here w m node (with_clients_ended q ids node) here at (vbs_stay node (with_clients_ended q ids node) refl refl refl (λ u there. there)))
+
+  given_here : (m : ℕ) (given : List Yielded) (w : PlainWorld) → Here n v w → Here n v (with_given m given w)
+  given_here m [] w here = here
+  given_here m (one ∷ more) w here = given_here m more (with_ended m one.vb one.ended w) (ended_here w m one.vb one.ended here)
+
+  posted_here : (m : ℕ) (rs : List Resolved) (o : Outcome) → Here n v o.0 → Here n v (posted_in m rs o).0
+  posted_here m rs o here = by (o.0.nodes m) refl
+    where
+      by : (k : Option PlainNode) → o.0.nodes m ≡ k → Here n v (posted_at m rs o.0 o.1 k).0
+      by None at = here
+      by (Some node) at = put_here o.0 m node (all_posted rs node).0 here at (posts_stay rs node)
+
+  pub pump_here : (w : PlainWorld) (l frames : ℕ) → Here n v w → Here n v (pump_step w l frames).0
+  pump_here w l frames here = by (row_at link_number l w.links)
+    where
+      gave : (link : PlainLink) (o : Option PlainNode) → w.nodes (producer_node link) ≡ o → Here n v (gives_at frames link w o).0
+      gave link None e = here
+      gave link (Some node) e =
+          let m = producer_node link in let x = after (peer_gives_up frames (peer_of link)) node.vbs in let given : List Yielded = x.1.given in
+          posted_here m (flat_map resolved_in given) (with_given m given (with_gone link node x.0 x.1.peer w), done (map (dead_line m) given))
+          (given_here m given (with_gone link node x.0 x.1.peer w) (nodes_here (with_node_at w m (with_states node x.0)) (with_gone link node x.0 x.1.peer w) refl
+          (put_here w m node (with_states node x.0) here e (vbs_stay node (with_states node x.0) refl refl refl (ran_keeps (peer_gives_up frames (peer_of link)) node.vbs)))))
+
+      by : (o : Option PlainLink) → Here n v (pump_outcome w l frames o).0
+      by None = here
+      by (Some link) = link_here (gives_at frames link w (w.nodes (producer_node link))).0 l producer_node (pump_at frames) (gave link (w.nodes (producer_node link)) refl) (pump_stays frames)
 
   -- no arm fires
   pub armed_here : (w : PlainWorld) (m : ℕ) (came : Outcome) → Here n v w → Here n v came.0 → Here n v (with_arm m w came).0

@@ -1,5 +1,5 @@
 -- the calls of clients, of a producer, of an operator and of writing down are such that a vBucket stays sound at them, whatever is replied
-use Rattle.std.specs.Prelude.{◌≡◌, ◌<◌, ◌^◌, ◌==◌, if◌then◌else◌, nat_le}
+use Rattle.std.specs.Prelude.{◌≡◌, ◌<◌, ◌^◌, ◌==◌, ◌&&◌, if◌then◌else◌, nat_le, nat_lt}
 use Rattle.transcript_law.proofs.Words.{ℕ, Bool, true, false, Option, Some, None, is_some, Result, Ok, Err, Frame, KvRequest, RESPONSE, Status, PlainStream, PlainProducer, AdminCall, VbCall, VbReply, DialResult, Prog, Call, Done, bind, Job, Ended, bind_job}
 use Rattle.transcript_law.proofs.Words.{request_handled, frame_handled, frame_answered, frames_put, end_closed, streams_closed, peer_pulled}
 use Rattle.client_session.proofs.{Conduct.{either}, Keeping.{front_of}}
@@ -17,11 +17,14 @@ use Rattle.node_core.specs.Loading.{start_job, start_result}
 use Rattle.node_core.specs.Peers.{PlainPeer, peer_answered, peer_result, pull_result}
 use Rattle.node_core.specs.declared.admin.AdminCall.TheVariants as admin
 use Rattle.dcp_consumer.specs.Machine.{is_streaming, may_acknowledge}
-use Rattle.vb_calls.proofs.{Conduct.{always_bind, always_so}, JobConduct.{always_bind_job}}
+use Rattle.vb_calls.proofs.{Conduct.{always_bind, always_each, always_so}, JobConduct.{always_bind_job}}
 use Rattle.vb_calls.specs.Flushes.{append_job, appended_job, batch_of_reply, done_job, flush_job, is_refusal, note_role_job, part_job, role_of_call, role_job, role_told_job, save_all_job, taken_job, took}
 use Rattle.vb_calls.specs.Jobs.{AlwaysJob}
 use Rattle.vb_calls.specs.Jobs as job
-use Rattle.vb_calls.specs.Programs.{Always, AnyReply}
+use Rattle.vb_calls.specs.Programs.{Always, AnyReply, each}
+use Rattle.dcp_producer.specs.{Giving.{Given, Yields, all_given, behind_yield, given_of, given_up, is_due, none_given, one_given, stream_given, told_as, with_given}, declared.yields.Yielded.{Yielded}}
+use Rattle.flow_control.specs.Windows.{is_open}
+use Rattle.node_core.specs.GivingUp.{give_result, peer_gives_up}
 use Rattle.vb_calls.specs.Shelves.{Ask, DiskFailed, Fate, Flush, Idle, Out, Stood, WasClosed, Written}
 use Rattle.vb_calls.specs.declared.calls.Resolved.{Resolved}
 use Rattle.vb_calls.specs.declared.calls.VbCall.TheVariants as call
@@ -119,6 +122,20 @@ timely_takes = record { places = λ id. tt; takes = λ id. tt; closes = λ id. t
 
 pub pulled_tame : (k : ℕ) (peer : PlainPeer) → Tame (peer_pulled k peer)
 pulled_tame k peer = pulled_makes IsTimely timely_takes k peer
+
+-- ---- a producer that gives vBuckets up
+
+given_tame : (stream : PlainStream) (g : Given) → Tame (one_given stream g)
+given_tame stream g = tame_bind (stream_given stream) (λ x. Done (with_given g x)) (either (λ (p : Prog (PlainStream × Option Yielded)). Tame p) (is_due stream)
+    (Call stream.vb (call.Yield stream.id) (λ reply. Done (behind_yield (told_as stream.vb reply) stream, told_as stream.vb reply))) (Done (stream, None)) (tt, λ reply any. tt) tt) (λ x. tt)
+
+end_tame : (k : ℕ) (end : PlainProducer) → Tame (given_up k end)
+unfolding given_up
+end_tame k end = either (λ (p : Prog Yields). Tame p) (nat_lt 0 k && is_open end.window) (all_given end) (Done (record { end = end; yielded = [] }))
+    (tame_bind (each one_given end.streams none_given) (λ g. Done (given_of end g)) (always_each AnyReply (λ v made. IsTimely made) (λ g. Unit {0}) one_given (λ stream g any. given_tame stream g) end.streams (Done none_given) tt) (λ g. tt)) tt
+
+pub gives_tame : (k : ℕ) (peer : PlainPeer) → Tame (peer_gives_up k peer)
+gives_tame k peer = tame_bind (given_up k peer.producer) (λ yields. Done (give_result peer.heard yields)) (end_tame k peer.producer) (λ yields. tt)
 
 -- ---- a client's connection: what it sends, what it is told of a durable write, and the frames of its streams
 

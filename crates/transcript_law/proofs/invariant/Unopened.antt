@@ -84,7 +84,7 @@ inherits_none : (vb : Plain) (id : ℕ) → Has (settled (risen vb)).vb.streams 
 inherits_none vb id h = subst (λ ss. Has ss id) (after_settled (risen vb)) h
 
 -- one that is given up keeps a stream that it had
-found_has : (id : ℕ) (ss : List Stream) (s : Stream) → stream_at id ss ≡ Some s → Has ss s.id
+pub found_has : (id : ℕ) (ss : List Stream) (s : Stream) → stream_at id ss ≡ Some s → Has ss s.id
 found_has id [] s e = absurd (cc)
 found_has id (x ∷ xs) s e = by (found_has id xs s) (x.id == id) e
   where

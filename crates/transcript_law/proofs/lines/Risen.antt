@@ -156,8 +156,8 @@ ahead_last r other said = refl
 verb_last : (before r : Chronicle) (line : Verb) (lines : List Event) (said : Answer) → (after_verb before r line lines said).last ≡ r.last
 verb_last before r (verb.AtVb n v (vb_verb.MakeActive uuid)) lines said = made_same r n v Role.Active said
 verb_last before r (verb.AtVb n v vb_verb.MakeReplica) lines said = made_same r n v Role.Replica said
-verb_last before r (verb.Link l m n v buffer) lines answer.Ok = refl
-verb_last before r (verb.Link l m n v buffer) lines other = refl
+verb_last before r (verb.Link l m n v buffer takeover) lines answer.Ok = refl
+verb_last before r (verb.Link l m n v buffer takeover) lines other = refl
 verb_last before r (verb.AtLink l (link_verb.Down wanted)) lines said = moved_same r (heir_in lines) (rollback_of before (before.dial_of l) (before.point_of l)) lines said
 verb_last before r (verb.AtVb n v (vb_verb.Promote uuid)) lines said = append_same r n v (appending (state_of r n v Role.Active)) said
 verb_last before r (verb.AtVb n v vb_verb.Follow) lines said = append_same r n v (appending (state_of r n v Role.Replica)) said

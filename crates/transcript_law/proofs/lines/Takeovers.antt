@@ -1,6 +1,6 @@
--- what is told of links that may take a vBucket over is told by whole groups alone; and so far no link is dialed for that
+-- what is told of links that may take a vBucket over is told by whole groups alone
 use Rattle.std.specs.Prelude.{◌≡◌, ◌∷◌, ◌==◌, ◌&&◌, nat_lt, if◌then◌else◌}
-use Rattle.transcript_law.proofs.Words.{Role, list_any, not, ℕ, Bool, true, false, List, [], refl, ap, sym, ◌∙◌, subst, Option, Some, None, Answer, Chronicle, Event, Group, ScriptLine, Verb, empty_chronicle}
+use Rattle.transcript_law.proofs.Words.{Role, list_any, not, ℕ, zero, suc, take, Bool, true, false, List, [], refl, ap, sym, ◌∙◌, subst, Option, Some, None, Answer, Chronicle, Event, Group, ScriptLine, Verb, empty_chronicle}
 use Rattle.script_text.specs.declared.verb.Verb.TheVariants as verb
 use Rattle.script_text.specs.declared.verb.ClientVerb.TheVariants as client_verb
 use Rattle.script_text.specs.declared.verb.LinkVerb.TheVariants as link_verb
@@ -17,7 +17,7 @@ use Rattle.transcript_law.specs.Chronicles.{Appending, after_append, after_calls
 use Rattle.transcript_law.specs.LinesTold.{Dial, TakeoverKnown, dialed_for, with_moved, with_role, with_state}
 use Rattle.transcript_law.specs.TakeoverNotes.{is_state_of, obeyed_after, turns_consumer}
 use Rattle.transcript_law.specs.Prefixes.{known_after}
-use Rattle.transcript_law.specs.Takeovers.{IsPlainFor, NoneDialed}
+use Rattle.transcript_law.specs.Takeovers.{AllFollow, FollowsAlone, IsPlainFor, NoneDialed}
 
 pub line_takeovers : (r : Chronicle) (line : Event) → (after_line r line).takeover_of ≡ r.takeover_of
 line_takeovers r (event.Asked (name.Client n c) m v ask high log said) = refl
@@ -97,11 +97,11 @@ ahead_takeovers r (verb.AtNode n (node_verb.Crash out)) answer.Ok = refl
 ahead_takeovers r (verb.AtNode n (node_verb.Crash out)) other = refl
 ahead_takeovers r other said = refl
 
-verb_takeovers : (before r : Chronicle) (line : Verb) (lines : List Event) (said : Answer) → (after_verb before r line lines said).takeover_of ≡ r.takeover_of
+pub verb_takeovers : (before r : Chronicle) (line : Verb) (lines : List Event) (said : Answer) → (after_verb before r line lines said).takeover_of ≡ r.takeover_of
 verb_takeovers before r (verb.AtVb n v (vb_verb.MakeActive uuid)) lines said = made_same r n v Role.Active said
 verb_takeovers before r (verb.AtVb n v vb_verb.MakeReplica) lines said = made_same r n v Role.Replica said
-verb_takeovers before r (verb.Link l m n v buffer) lines answer.Ok = refl
-verb_takeovers before r (verb.Link l m n v buffer) lines other = refl
+verb_takeovers before r (verb.Link l m n v buffer takeover) lines answer.Ok = refl
+verb_takeovers before r (verb.Link l m n v buffer takeover) lines other = refl
 verb_takeovers before r (verb.AtLink l (link_verb.Down wanted)) lines said = moved_same r (heir_in lines) (rollback_of before (before.dial_of l) (before.point_of l)) lines said
 verb_takeovers before r (verb.AtVb n v (vb_verb.Promote uuid)) lines said = append_same r n v (appending (state_of r n v Role.Active)) said
 verb_takeovers before r (verb.AtVb n v vb_verb.Follow) lines said = append_same r n v (appending (state_of r n v Role.Replica)) said
@@ -126,34 +126,43 @@ verb_takeovers before r other lines said = refl
 
 -- ---- none is dialed
 
--- so it is behind a whole group
+-- so it is behind a whole group of a line that dials no link for a takeover
 either : (b : Bool) (x y : TakeoverKnown) → x.dialed ≡ false → y.dialed ≡ false → (if b then x else y).dialed ≡ false
 either true x y e f = e
 either false x y e f = f
 
-obeyed_plain : (dial : Option Dial) (asked : Verb) (lines : List Event) (said : Answer) (l : ℕ) (t : TakeoverKnown) → t.dialed ≡ false → (obeyed_after dial asked lines said l t).dialed ≡ false
-obeyed_plain dial (verb.AtLink k (link_verb.Pump wanted)) lines said l t e = either (k == l && list_any (is_state_of l) lines) (with_state t) t e e
-obeyed_plain dial (verb.AtLink k (link_verb.Down wanted)) lines said l t e = either (k == l && turns_consumer dial lines) (with_role t) t e e
-obeyed_plain dial (verb.AtLink k (link_verb.Up wanted)) lines (answer.Number n) l t e = either (k == l) (with_moved wanted n t) t e e
-obeyed_plain dial (verb.Link k m n v buffer) lines answer.Ok l t e = either (k == l) (dialed_for false) t refl e
-obeyed_plain dial other lines said l t e = e
+obeyed_plain : (dial : Option Dial) (asked : Verb) (lines : List Event) (said : Answer) (l : ℕ) (t : TakeoverKnown) → FollowsAlone asked → t.dialed ≡ false → (obeyed_after dial asked lines said l t).dialed ≡ false
+obeyed_plain dial (verb.AtLink k (link_verb.Pump wanted)) lines said l t alone e = either (k == l && list_any (is_state_of l) lines) (with_state t) t e e
+obeyed_plain dial (verb.AtLink k (link_verb.Down wanted)) lines said l t alone e = either (k == l && turns_consumer dial lines) (with_role t) t e e
+obeyed_plain dial (verb.AtLink k (link_verb.Up wanted)) lines (answer.Number n) l t alone e = either (k == l) (with_moved wanted n t) t e e
+obeyed_plain dial (verb.Link k m n v buffer takeover) lines answer.Ok l t alone e = either (k == l) (dialed_for takeover) t alone e
+obeyed_plain dial other lines said l t alone e = e
 
-pub group_plain : (r : Chronicle) (line : Verb) (lines : List Event) (said : Answer) → NoneDialed r → NoneDialed (after_group r line lines said)
-group_plain r line lines said none l =
+-- what is read with a group tells of links what was told before it
+pub read_takeovers : (r : Chronicle) (line : Verb) (lines : List Event) (said : Answer) → (after_verb r (after_lines (ahead r line said) lines) line lines said).takeover_of ≡ r.takeover_of
+read_takeovers r line lines said = verb_takeovers r (after_lines (ahead r line said) lines) line lines said ∙ lines_takeovers (ahead r line said) lines ∙ ahead_takeovers r line said
+
+pub group_plain : (r : Chronicle) (line : Verb) (lines : List Event) (said : Answer) → FollowsAlone line → NoneDialed r → NoneDialed (after_group r line lines said)
+group_plain r line lines said alone none l =
     let read : Chronicle = after_verb r (after_lines (ahead r line said) lines) line lines said in
-    let same : read.takeover_of ≡ r.takeover_of = verb_takeovers r (after_lines (ahead r line said) lines) line lines said ∙ lines_takeovers (ahead r line said) lines ∙ ahead_takeovers r line said in
-    obeyed_plain (read.dial_of l) line lines said l (read.takeover_of l) (ap (λ (t : ℕ → TakeoverKnown). (t l).dialed) same ∙ none l)
+    obeyed_plain (read.dial_of l) line lines said l (read.takeover_of l) alone (ap (λ (t : ℕ → TakeoverKnown). (t l).dialed) (read_takeovers r line lines said) ∙ none l)
 
 -- nor is the one that a line names
 pub plain_for : (r : Chronicle) (line : Verb) → NoneDialed r → IsPlainFor r line
 plain_for r (verb.AtLink l what) none = none l
 plain_for r other none = tt
 
--- and so far, whatever lines are told
-known_plain : (r : Chronicle) (script : List ScriptLine) (told : List Group) → NoneDialed r → NoneDialed (known_after r script told)
-known_plain r [] told none = none
-known_plain r (line ∷ lines) [] none = none
-known_plain r (line ∷ lines) (group ∷ told) none = known_plain (after_group (at_line r line.line) line.verb group.events group.answer) lines told (group_plain (at_line r line.line) line.verb group.events group.answer none)
+-- whatever lines are told
+known_plain : (r : Chronicle) (script : List ScriptLine) (told : List Group) → AllFollow script → NoneDialed r → NoneDialed (known_after r script told)
+known_plain r [] told alone none = none
+known_plain r (line ∷ lines) [] alone none = none
+known_plain r (line ∷ lines) (group ∷ told) alone none = known_plain (after_group (at_line r line.line) line.verb group.events group.answer) lines told alone.1 (group_plain (at_line r line.line) line.verb group.events group.answer alone.0 none)
 
-pub none_known : (script : List ScriptLine) (told : List Group) → NoneDialed (known_after empty_chronicle script told)
-none_known script told = known_plain empty_chronicle script told (λ l. refl)
+pub none_known : (script : List ScriptLine) (told : List Group) → AllFollow script → NoneDialed (known_after empty_chronicle script told)
+none_known script told alone = known_plain empty_chronicle script told alone (λ l. refl)
+
+-- a front of such a script is one
+pub front_follows : (k : ℕ) (script : List ScriptLine) → AllFollow script → AllFollow (take k script)
+front_follows zero script alone = tt
+front_follows (suc k) [] alone = tt
+front_follows (suc k) (line ∷ lines) alone = (alone.0, front_follows k lines alone.1)

@@ -2,12 +2,13 @@
 use Rattle.std.specs.Prelude.{◌≡◌, ◌<◌, ◌≤◌, ◌∷◌, ◌++◌, ◌==◌, ◌&&◌, ◌^◌, if◌then◌else◌}
 use Rattle.std.specs.FinMap as finite
 use Rattle.std.specs.Prelude.{nat_lt}
-use Rattle.transcript_law.proofs.Words.{ℕ, Bool, true, false, List, [], refl, ap, sym, ◌∙◌, subst, inl, inr, ⊎_elim, map, arith, append_assoc, option_map, is_some, Option, Some, None, All, All-push, All-weaker, Frame, spelling, Readable, DcpMsg}
+use Rattle.transcript_law.proofs.Words.{ℕ, Bool, true, false, List, [], refl, ap, sym, ◌∙◌, subst, inl, inr, ⊎_elim, map, arith, append_assoc, option_map, is_some, Option, Some, None, All-push, Frame, spelling, Readable, DcpMsg}
 use Rattle.transcript_law.proofs.Words.{dcp_frame, Change, Position, last_seq, eqb-true, LawfulAcknowledged, Member, Cluster, Plain, is_follower, fork_of, quiet_reply, refusal_reply, States, with_vb_at, call_at, Call, Done, after, Sound, PlainConsumer, DialResult}
 use Rattle.transcript_law.proofs.Words.{row_at, row_put, PlainLink, link_number, producer_node, consumer_node, PlainWorld, Granted, Chronicle, PlainProducer, StreamName, Role, Feed, above, hist, image_in, image_of, ground, stream_branch, with_changed}
-use Rattle.transcript_law.proofs.invariant.Agreement.{AckedIs, vb_of, image_is, shelf_of, consumer_seat, AgreesAt, BranchAgrees, DiskIsIf, VbAgrees, IsAcknowledgement, UpIs, ConsumerIs, EndsStand, Wants, LinkAgrees, Busy, AgreesIn}
+use Rattle.transcript_law.proofs.invariant.Agreement.{AckedIs, FollowsBy, Handing, answers_in, taken_in, vb_of, image_is, shelf_of, consumer_seat, AgreesAt, BranchAgrees, DiskIsIf, VbAgrees, UpIs, ConsumerIs, EndsStand, Wants, LinkAgrees, Busy, AgreesIn}
 use Rattle.transcript_law.proofs.{invariant.Carried.{talk_same}, invariant.Carrying.{Relinked}, disks.Disks.{saved_so}, links.Followed.{fork_low, own_is}, links.Frames.{readable, spelled_more}, verbs.NodeLines.{put_same}, invariant.OneLink.{carries_link, mine}, links.PumpWorlds.{told_stream}, invariant.Tables.{changed_here, is_dialed}}
-use Rattle.{branch_model.specs.Logs.{IsFront}, cluster_model.specs.Clusters.{Comes, Ground, Joined, Linked, Stands}, std.proofs.lemmas.Bool.Decides.{nat_tests}, transcript_law.proofs.links.Firsts.{first_count}, transcript_law.proofs.links.Requests.{granted_past}}
+use Rattle.{branch_model.specs.Logs.{IsFront}, cluster_model.specs.Clusters.{Comes, Ground, Joined, Linked, Stands}, std.proofs.lemmas.Bool.Decides.{nat_tests}, transcript_law.proofs.links.Firsts.{first_count}, transcript_law.proofs.links.Requests.{granted_past}, transcript_law.proofs.links.Upgoing.{upward_acked, upward_wrote}}
+use Rattle.{takeover.specs.declared.take_over.TakeOver.{TakeOver}, takeover.specs.declared.take_over.TakeStep.{TakeStep}, takeover.specs.declared.take_over.TakeStep.TheVariants.{Own, Pend}}
 use Rattle.transcript_law.specs.{Chronicles.{acknowledging}, Lawfulness.{SavesThirds, known_history, stream_history}}
 use Rattle.branch_model.specs.Snapshots.{Follows}
 use Rattle.{dcp_consumer.specs.Machine.{acknowledged, is_streaming, may_acknowledge}}
@@ -34,12 +35,39 @@ pub record GrantedTo (kn : Member) (told : Option Granted) : Type 0 where
   pub adopted : is_some kn.coming ≡ true
   pub points_of_branch : stream_branch stream ≡ feed.u
 
--- a consumer whose stream was granted has one that the lines tell
-pub stream_granted : {fv : Wants} {kn leader : Member} {pv : Option Plain} {g : Option Granted} {point : Option ℕ} {served : PlainProducer} {consumer : PlainConsumer} {asked said : List Frame} → EndsStand fv kn pv leader g point served consumer asked said
-    → is_streaming consumer.handshake ≡ true → GrantedTo kn g
-stream_granted {consumer = consumer} (EndsStand.IsAsking ask none x) granted = let a : x.seen ≤ x.answered = x.not_more in let b : x.answered ≤ first_count consumer.dialed = x.some_left in absurd (not_before consumer granted x.seen (omega arith) x.consumer)
-stream_granted {consumer = consumer} (EndsStand.IsRefusedYet none x) granted = absurd (not_before consumer granted x.seen x.not_more x.consumer)
-stream_granted {consumer = consumer} (EndsStand.IsStreaming x) granted = record {
+-- its vBucket was not told to take its branch over
+abbrev pub OwnsNot : PlainConsumer → Type 0
+OwnsNot consumer = consumer.taking ≡ record { last = Some Own } → ⊥
+
+-- so it is while it follows
+pub owns_not : (consumer : PlainConsumer) (role : Role) → FollowsBy consumer.taking.last role → is_follower role ≡ true → OwnsNot consumer
+owns_not consumer role by follows owns = let z : true ≡ false = sym follows ∙ subst (λ (t : TakeOver). FollowsBy t.last role) owns by in cc
+
+-- and by how far it is
+pub handed_not : (consumer : PlainConsumer) (h : Handing) → consumer.taking ≡ taken_in h → OwnsNot consumer
+handed_not consumer h taken owns = by h (sym taken ∙ owns)
+  where
+    none : {A : Type 0} → ◌≡◌ {A = Option TakeStep} None (Some Own) → A
+    none e = cc
+
+    pend : {A : Type 0} → ◌≡◌ {A = Option TakeStep} (Some Pend) (Some Own) → A
+    pend e = let z : Pend ≡ Own = cc in cc
+
+    by : (x : Handing) → taken_in x ≡ record { last = Some Own } → ⊥
+    by Handing.Unstated e = none (ap (λ (t : TakeOver). t.last) e)
+    by Handing.Offered e = none (ap (λ (t : TakeOver). t.last) e)
+    by Handing.Pended e = pend (ap (λ (t : TakeOver). t.last) e)
+    by Handing.Due e = pend (ap (λ (t : TakeOver). t.last) e)
+    by Handing.Ceded e = pend (ap (λ (t : TakeOver). t.last) e)
+    by Handing.Stated e = pend (ap (λ (t : TakeOver). t.last) e)
+
+-- a consumer whose stream was granted, and whose vBucket did not take its branch over, has one that the lines tell
+pub stream_granted : {fv : Wants} {kn leader : Member} {pv : Option Plain} {g : Option Granted} {last : Option Role} {point : Option ℕ} {served : PlainProducer} {consumer : PlainConsumer} {asked said : List Frame} → EndsStand fv kn pv leader g last point served consumer asked said
+    → is_streaming consumer.handshake ≡ true → OwnsNot consumer → GrantedTo kn g
+stream_granted {consumer = consumer} (EndsStand.IsAsking ask none x) granted follows = let a : x.seen ≤ x.answered = x.not_more in let b : x.answered ≤ first_count consumer.dialed = x.some_left in absurd (not_before consumer granted x.seen (omega arith) x.consumer)
+stream_granted {consumer = consumer} (EndsStand.IsRefusedYet none x) granted follows = absurd (not_before consumer granted x.seen x.not_more x.consumer)
+stream_granted {consumer = consumer} (EndsStand.IsHeir x said) granted follows = absurd (follows x.owns)
+stream_granted {consumer = consumer} (EndsStand.IsStreaming x said) granted follows = record {
   stream = x.granted_is;
   is_told = x.told;
   feed = x.feed;
@@ -63,31 +91,29 @@ on_stream g kn feed b s fed adopted is unlogged = by b is unlogged
     by None is none = absurd (subst (λ l. IsFront l kn.br) (none refl) (at_it kn.coming refl adopted).1)
     by (Some u) is none = ap Some (sym is ∙ (at_it kn.coming refl adopted).0)
 
--- once more is acknowledged, what was on its way before is acknowledged still
-acks_more : (seq o vb : ℕ) (wrote : List ℕ) (frames : List Frame) → All (IsAcknowledgement wrote o vb) frames → All (IsAcknowledgement (seq ∷ wrote) o vb) frames
-acks_more seq o vb wrote frames acks = All-weaker (IsAcknowledgement wrote o vb) (IsAcknowledgement (seq ∷ wrote) o vb) (λ f a. ⊎_elim (λ s. inl (s.0, s.1, s.2, inr s.3)) (λ b. inr b) a) frames acks
-
 -- a link whose consumer acknowledged all up to a seqno, with these bytes on their way to the producer
 abbrev pub acked_link : PlainLink → ℕ → List ℕ → PlainLink
 acked_link link seq up = record link { consumer = (acknowledged seq link.consumer).0; up = up }
 
-module _ (link : PlainLink) (seq : ℕ) (up : List ℕ) (wrote : up ≡ link.up ++ spelling (ack_frame seq link.consumer)) (granted : is_streaming link.consumer.handshake ≡ true) (low : seq < 2 ^ 64) where
+module _ (link : PlainLink) (seq : ℕ) (up : List ℕ) (wrote : up ≡ link.up ++ spelling (ack_frame seq link.consumer)) (granted : is_streaming link.consumer.handshake ≡ true) (follows : OwnsNot link.consumer) (low : seq < 2 ^ 64) where
   abbrev after_ack : PlainLink
   after_ack = acked_link link seq up
 
   abbrev frame : Frame
   frame = ack_frame seq link.consumer
 
-  module _ {fv : Wants} {kn leader : Member} {pv : Option Plain} {g : Option Granted} {point : Option ℕ} {asked said : List Frame} where
-    opaque_small : EndsStand fv kn pv leader g point link.server link.consumer asked said → link.consumer.asked < 2 ^ 32
+  module _ {fv : Wants} {kn leader : Member} {pv : Option Plain} {g : Option Granted} {last : Option Role} {point : Option ℕ} {asked said : List Frame} where
+    opaque_small : EndsStand fv kn pv leader g last point link.server link.consumer asked said → link.consumer.asked < 2 ^ 32
     opaque_small (EndsStand.IsAsking ask none x) = x.consumer.small
     opaque_small (EndsStand.IsRefusedYet none x) = x.consumer.small
-    opaque_small (EndsStand.IsStreaming x) = x.consumer.small
+    opaque_small (EndsStand.IsStreaming x said) = x.consumer.small
+    opaque_small (EndsStand.IsHeir x said) = x.small
 
-    stands_acked : {g' : Option Granted} → g' ≡ option_map (acknowledging seq) g → EndsStand fv kn pv leader g point link.server link.consumer asked said → EndsStand fv kn pv leader g' point link.server after_ack.consumer (asked ++ frame ∷ []) said
+    stands_acked : {g' : Option Granted} → g' ≡ option_map (acknowledging seq) g → EndsStand fv kn pv leader g last point link.server link.consumer asked said → EndsStand fv kn pv leader g' last point link.server after_ack.consumer (asked ++ frame ∷ []) said
     stands_acked told (EndsStand.IsAsking ask none x) = let a : x.seen ≤ x.answered = x.not_more in let b : x.answered ≤ first_count link.consumer.dialed = x.some_left in absurd (not_before link.consumer granted x.seen (omega arith) x.consumer)
     stands_acked told (EndsStand.IsRefusedYet none x) = absurd (not_before link.consumer granted x.seen x.not_more x.consumer)
-    stands_acked told (EndsStand.IsStreaming x) = EndsStand.IsStreaming (record {
+    stands_acked told (EndsStand.IsHeir x said) = absurd (follows x.owns)
+    stands_acked told (EndsStand.IsStreaming x said) = EndsStand.IsStreaming (record {
       granted_is = acknowledging seq x.granted_is;
       told = told ∙ ap (option_map (acknowledging seq)) x.told;
       serving = record {
@@ -96,10 +122,15 @@ module _ (link : PlainLink) (seq : ℕ) (up : List ℕ) (wrote : up ≡ link.up 
         numbered = x.numbered;
         apart = x.apart;
         server = x.server;
-        acks = All-push (IsAcknowledgement (seq ∷ x.granted_is.wrote) link.consumer.asked link.consumer.dialed.vb) asked frame (acks_more seq link.consumer.asked link.consumer.dialed.vb x.granted_is.wrote asked x.acks) (inl (seq, refl, low, inl refl));
+        handing = x.handing;
+        gives_is = x.gives_is;
+        dialed_so = x.dialed_so;
+        acks = (let o : ℕ = link.consumer.asked in let v : ℕ = link.consumer.dialed.vb in let answers : List Frame = answers_in o x.handing in
+            upward_acked (seq ∷ x.granted_is.wrote) o v answers asked (upward_wrote x.granted_is.wrote o v answers asked x.acks seq) frame (inl (seq, refl, low, inl refl)));
         unput = x.unput;
         unput_is = x.unput_is;
         all_put = x.all_put;
+        stated_behind = x.stated_behind;
       };
       feed = x.feed;
       fed = x.fed;
@@ -109,11 +140,14 @@ module _ (link : PlainLink) (seq : ℕ) (up : List ℕ) (wrote : up ≡ link.up 
         not_more = x.not_more;
         consumer = record { waits = x.consumer.waits; small = x.consumer.small };
         adopted = x.adopted;
+        taken_is = x.taken_is;
+        granted_first = x.granted_first;
+        flag_is = x.flag_is;
         asks = x.asks;
       };
-      streams = record { put = x.streams.put; opens = x.streams.opens; over_ended = x.streams.over_ended; coming = x.streams.coming; way = x.streams.way };
+      streams = record { put = x.streams.put; opens = x.streams.opens; given_in = x.streams.given_in; all_taken = x.streams.all_taken; over_ended = x.streams.over_ended; coming = x.streams.coming; way = x.streams.way };
       all = x.all;
-    })
+    }) said
 
   ack_readable : link.consumer.asked < 2 ^ 32 → link.consumer.dialed.vb < 1024 → Readable frame
   ack_readable small few = readable (DcpMsg.SeqnoAcknowledged seq) link.consumer.asked link.consumer.dialed.vb tt low small (omega arith) (omega arith)
@@ -136,9 +170,9 @@ module _ (link : PlainLink) (seq : ℕ) (up : List ℕ) (wrote : up ≡ link.up 
     follower = x.follower;
     follower_is = vbs (consumer_node link) link.consumer.dialed.vb ∙ x.follower_is;
     follows = x.follows;
-    acks = subst (λ o. AckedIs o seq) (sym (changed_here r (link_number link) v (acknowledging seq) (is_dialed (r.dial_of (link_number link)) link.server.desk.node link.consumer.dialed.node v x.dialed) ∙ ap (option_map (acknowledging seq)) (stream_granted x.talk.stands granted).is_told)) refl;
+    acks = subst (λ o. AckedIs o seq) (sym (changed_here r (link_number link) v (acknowledging seq) (is_dialed (r.dial_of (link_number link)) link.server.desk.node link.consumer.dialed.node v x.dialed) ∙ ap (option_map (acknowledging seq)) (stream_granted x.talk.stands granted follows).is_told)) refl;
     dial = x.dial;
-    talk = talk_same refl (vbs (producer_node link) link.consumer.dialed.vb) refl refl refl (record {
+    talk = talk_same refl (vbs (producer_node link) link.consumer.dialed.vb) refl refl refl refl (record {
       asked = t.asked ++ frame ∷ [];
       said = t.said;
       stands = stands_acked (changed_here r (link_number link) v (acknowledging seq) (is_dialed (r.dial_of (link_number link)) link.server.desk.node link.consumer.dialed.node v x.dialed)) t.stands;
@@ -198,16 +232,16 @@ acked_is_lawful q n v l seq saved m g p held dialed told on role holds high snap
     inside ss se is below = (let ends : p.se ≡ se = ends_are ss se is in let starts : p.ss ≡ ss = starts_are ss se is in subst (λ k. seq ≤ k) starts (not_whole (p.at == p.se) refl (omega arith) low))
 
 -- and so where all agrees
-pub ack_lawful : (busy : Busy) (w : PlainWorld) (q : Chronicle) (c : Cluster) (a : AgreesIn busy w q c) (link : PlainLink) (asking taking : List Frame) (x : LinkAgrees w q c link asking taking) (seq : ℕ) → is_streaming link.consumer.handshake ≡ true
+pub ack_lawful : (busy : Busy) (w : PlainWorld) (q : Chronicle) (c : Cluster) (a : AgreesIn busy w q c) (link : PlainLink) (asking taking : List Frame) (x : LinkAgrees w q c link asking taking) (seq : ℕ) → is_streaming link.consumer.handshake ≡ true → is_follower x.follower.role ≡ true
     → seq ≤ fork_of x.follower.position → SavesThirds (image_in x.follower) seq x.follower.saved → LawfulAcknowledged q (link_number link) (consumer_node link) link.consumer.dialed.vb seq x.follower.saved
-ack_lawful busy w q c a link asking taking x seq granted low thirds =
+ack_lawful busy w q c a link asking taking x seq granted follows low thirds =
     let k : ℕ = consumer_node link in let v : ℕ = link.consumer.dialed.vb in let kn : Member = c.nodes (consumer_seat link) in
     let held : VbAgrees q k v kn x.follower = subst (AgreesAt q k v kn) x.follower_is (a.vbs k v) in
-    let s : GrantedTo kn (q.stream_of (StreamName.Link (link_number link)) v) = stream_granted x.talk.stands granted in
+    let s : GrantedTo kn (q.stream_of (StreamName.Link (link_number link)) v) = stream_granted x.talk.stands granted (owns_not link.consumer x.follower.role x.follows follows) in
     let on : q.branch_at k v ≡ Some s.feed.u = on_stream (ground c) kn s.feed (q.branch_at k v) (a.sound.stands (consumer_seat link)) s.fed s.adopted held.branch (λ e. held.member.log ∙ held.unlogged e) in
     acked_is_lawful q k v (link_number link) seq x.follower.saved link.server.desk.node s.stream x.follower.position kn.held x.dialed s.is_told
     (on ∙ ap Some (sym s.points_of_branch))
-    (λ said e. let both : Some (Some x.follower.role) ≡ Some (Some said) = sym held.role ∙ e in let same : x.follower.role ≡ said = ap known_role both in subst (λ (o : Role). is_follower o ≡ true) same x.follows)
+    (λ said e. let both : Some (Some x.follower.role) ≡ Some (Some said) = sym held.role ∙ e in let same : x.follower.role ≡ said = ap known_role both in subst (λ (o : Role). is_follower o ≡ true) same follows)
     held.held held.high held.snap held.sound.within.0 low
     (saved_so (q.disk_at k v) (c.disks (consumer_seat link)) (shelf_of w k v) x.follower (subst (DiskIsIf (q.disk_at k v) (c.disks (consumer_seat link)) (shelf_of w k v)) x.follower_is (a.disks k v)))
     (subst (λ image. SavesThirds image seq x.follower.saved) (image_is held.kept) thirds)
@@ -279,3 +313,33 @@ module _ (states : States) (fv : Plain) (s : DialResult) (known : states s.dial.
   pub due_came : DueCame states fv s (after (due_requested s) states)
   unfolding due_requested
   due_came = asks_due (is_streaming s.dial.consumer.handshake) refl
+
+-- no number is below the first
+none_below : (n : ℕ) → nat_lt n 0 ≡ false
+none_below n = grind (arith, nat_tests)
+
+never : (b : Bool) → (b && false) ≡ false
+never true = refl
+never false = refl
+
+-- one that follows nobody acknowledges nothing
+pub due_rests : (states : States) (fv : Plain) (s : DialResult) → states s.dial.consumer.dialed.vb ≡ Some fv → is_follower fv.role ≡ false → after (due_requested s) states ≡ (states, s)
+unfolding due_requested
+due_rests states fv s known rests = by (is_streaming s.dial.consumer.handshake)
+  where
+    v : ℕ
+    v = s.dial.consumer.dialed.vb
+
+    same : with_vb_at states v fv ≡ states
+    same = λ i q. put_same states v fv known q i
+
+    -- no seqno is due
+    met : after (due_met s 0) states ≡ (states, s)
+    met = ap (λ b. after (if b then Call v call.Stat (λ reply. Done (acknowledged_result 0 s (saved_of_reply reply))) else Done s) states)
+        (ap (λ b. is_streaming s.dial.consumer.handshake && b) (none_below s.dial.consumer.acked) ∙ never (is_streaming s.dial.consumer.handshake))
+
+    by : (b : Bool) → after (if b then Call v call.Due (λ reply. due_met s (due_of_reply reply)) else Done s) states ≡ (states, s)
+    by false = refl
+    by true = ap (λ o. let y = call_at states v call.Due o in after (due_met s (due_of_reply y.1)) y.0) known
+        ∙ ap (λ b. after (due_met s (due_of_reply (Some (if b then quiet_reply (Num (due (pending_prepares fv) (fork_of fv.position) fv.saved)) else refusal_reply NotMyVbucket)))) (with_vb_at states v fv)) rests
+        ∙ ap (after (due_met s 0)) same ∙ met

@@ -1,15 +1,15 @@
 -- how a request for a stream is answered, over the plain vBuckets of a node, and where the two ends of its link stand then
 use Rattle.std.specs.Prelude.{◌≡◌, ◌<◌, ◌≤◌, ◌∷◌, ◌++◌, ◌==◌, ◌&&◌, ◌^◌, ◌+◌, ◌-◌, if◌then◌else◌, nat_le}
-use Rattle.transcript_law.proofs.Words.{answered, ℕ, true, false, List, [], length, take, drop, refl, ap, sym, ◌∙◌, subst, arith, Option, Some, None, not}
+use Rattle.transcript_law.proofs.Words.{answered, ℕ, Bool, true, false, List, [], length, take, drop, refl, ap, sym, ◌∙◌, subst, arith, Option, Some, None, not}
 use Rattle.transcript_law.proofs.Words.{All, eq-eqb, ne_eqb, nat_tests, drop-append-le, All-nil, Frame, spelling, Readable, dcp_frame, EntryInRange, AskAnswer, Position}
-use Rattle.transcript_law.proofs.Words.{LogEntry, StreamAsk, front, uuid_of, IsFront, Member, Stream, Plain, is_active, stream_at, new_stream, Sound, stream_verdict, PlainProducer, granted, PlainLink}
+use Rattle.transcript_law.proofs.Words.{LogEntry, StreamAsk, front, uuid_of, IsFront, Member, Stream, Plain, is_active, stream_at, new_stream, Role, Sound, effective_se, request_of, stream_verdict, PlainProducer, granted, PlainLink}
 use Rattle.transcript_law.proofs.Words.{producer_node, consumer_node, Granted, Feed, option_or, All-weaker, find-append, DcpMsg, Handshake, is_some, nat_lt, AskInRange, Event, Status, Verdict}
 use Rattle.transcript_law.proofs.Words.{Continue, Roll, rule, open_refusal, after, States, with_vb_at, call_at, with_frame, refuse, stream_request, frame_answered, PlainStream, Served, VbCall}
 use Rattle.transcript_law.proofs.Words.{VbReply, judged_open, open_outcome, ask_verdict, high_of_reply, request_refusal, stream_answered, is_sync, told}
 use Rattle.std.proofs.lemmas.List.{take_all}
 use Rattle.dcp_consumer.specs.declared.handshake.Dialed.{Dialed}
 use Rattle.dcp_producer.specs.declared.desk.Named.{Named}
-use Rattle.transcript_law.proofs.invariant.Agreement.{EntryFits, IsAcknowledgement, spoken, answer_frame, is_granted, StreamAgrees, UpIs, DownAgrees, Asking, IsRefused, PointAgrees, wants_of, EndsStand, Talk, top}
+use Rattle.transcript_law.proofs.invariant.Agreement.{EntryFits, Handing, IsUnsaid, IsUpward, gives_in, spoken, answer_frame, is_granted, StreamAgrees, UpIs, DownAgrees, Asking, IsRefused, PointAgrees, wants_of, EndsStand, Talk, top}
 use Rattle.transcript_law.proofs.invariant.Carrying.{StreamsChanged}
 use Rattle.transcript_law.proofs.{links.Frames.{readable}, links.Spoken.{answer_spoken, spoken_push}}
 use Rattle.transcript_law.proofs.links.Talks.{served_link, next_up, more_down}
@@ -17,6 +17,7 @@ use Rattle.transcript_law.proofs.invariant.Carried.{sound_streams}
 use Rattle.dcp_producer.specs.{Producers.{is_client, stream_at as stream_of_vb}, Serving.{gives_of, log_of_reply, next_stream, opening_requested, opens, refusal_requested, with_asked, with_granted}}
 use Rattle.transcript_law.proofs.links.Firsts.{first_answers, first_count, request_frames, set_after}
 use Rattle.transcript_law.proofs.links.Requests.{all_set, answers_count, request_answered, request_last}
+use Rattle.{dcp_consumer.specs.Dialing.{flagged}, takeover.specs.TakingOver.{new_take_over}, takeover.specs.declared.take_over.TakeOver.{TakeOver}, takeover.specs.declared.take_over.TakeStep.{TakeStep}, takeover.specs.declared.take_over.TakeStep.TheVariants.{Pend}}
 
 -- the states with this vBucket at v, and else the same
 pub record StatesAre (st : States) (v : ℕ) (vb : Plain) (st' : States) : Type 0 where
@@ -56,7 +57,25 @@ asked_frame o vb ask = dcp_frame (DcpMsg.StreamRequest ask) o vb
 called_once : (st : States) (v : ℕ) (a : Plain) → StatesAre st v a (with_vb_at st v a)
 called_once st v a = record { here = ap (λ b. if b then Some a else st v) (eq-eqb v v refl); there = λ q ne. ap (λ b. if b then Some a else st q) (ne_eqb q v ne) }
 
-module _ (o vb node : ℕ) (ask : StreamAsk) (s : Served) (range : AskInRange ask) (shaken : s.end.handshake ≡ Handshake.Open true (Named.Member node)) (plainly : ask.flags ≡ 0) (none_yet : s.end.streams ≡ []) (few : s.end.asked + 1 < 2 ^ 32) where
+never : (b : Bool) → (b && false) ≡ false
+never true = refl
+never false = refl
+
+-- the flags of a consumer's request are known ones
+pub flags_known : (takeover : Bool) (ask asked : StreamAsk) → ask ≡ flagged takeover asked → nat_lt 1 ask.flags ≡ false
+flags_known true ask asked is = ap (λ (a : StreamAsk). nat_lt 1 a.flags) is
+flags_known false ask asked is = ap (λ (a : StreamAsk). nat_lt 1 a.flags) is
+
+-- with 1 its stream gives its vBucket up, from the first step
+gives_flagged : (takeover : Bool) (ask asked : StreamAsk) → ask ≡ flagged takeover asked → gives_of ask.flags ≡ gives_in takeover Handing.Unstated
+gives_flagged true ask asked is = ap (λ (a : StreamAsk). gives_of a.flags) is
+gives_flagged false ask asked is = ap (λ (a : StreamAsk). gives_of a.flags) is
+
+-- no state was taken before the first
+none_taken : {A : Type 0} → new_take_over ≡ record { last = Some Pend } → A
+none_taken e = let z : ◌≡◌ {A = Option TakeStep} None (Some Pend) = ap (λ (t : TakeOver). t.last) e in cc
+
+module _ (o vb node : ℕ) (ask : StreamAsk) (s : Served) (range : AskInRange ask) (shaken : s.end.handshake ≡ Handshake.Open true (Named.Member node)) (flags : nat_lt 1 ask.flags ≡ false) (linked : is_client s.end.desk.stream ≡ false) (none_yet : s.end.streams ≡ []) (few : s.end.asked + 1 < 2 ^ 32) where
   abbrev id : ℕ
   id = next_stream s.end
 
@@ -64,7 +83,8 @@ module _ (o vb node : ℕ) (ask : StreamAsk) (s : Served) (range : AskInRange as
   refusal_is : request_refusal s.end ask ≡ None
   refusal_is =
       ap (λ h. request_refusal (record s.end { handshake = h }) ask) shaken
-      ∙ ap (λ n. if nat_lt 1 n then Some Status.Einval else if n == 1 && is_client s.end.desk.stream then Some Status.NotSupported else if nat_le (2 ^ 32 - 1) s.end.asked then Some Status.Etmpfail else None) plainly
+      ∙ ap (λ b. if b then Some Status.Einval else if ask.flags == 1 && is_client s.end.desk.stream then Some Status.NotSupported else if nat_le (2 ^ 32 - 1) s.end.asked then Some Status.Etmpfail else None) flags
+      ∙ ap (λ b. if b then Some Status.NotSupported else if nat_le (2 ^ 32 - 1) s.end.asked then Some Status.Etmpfail else None) (ap (λ b. ask.flags == 1 && b) linked ∙ never (ask.flags == 1))
       ∙ (let left : nat_le (2 ^ 32 - 1) s.end.asked ≡ false = grind (arith, nat_tests, few) in ap (λ b. if b then Some Status.Etmpfail else None) left)
 
   opens_one : opens s.end vb ask ≡ true
@@ -168,9 +188,9 @@ module _ (fv : Plain) (ask : StreamAsk) (link : PlainLink) (down : List ℕ) (f 
   pub asked_opened : link.server.handshake ≡ Handshake.Open true (Named.Member link.consumer.dialed.node)
   asked_opened = all_answered ∙ all_set dialed
 
-  pub refused_talk : (kn : Member) (pv : Option Plain) (leader : Member) (g : Option Granted) → g ≡ None → (answer : AskAnswer) → IsRefused answer → (point : Option ℕ) → PointAgrees answer point → down ≡ link.down ++ spelling (answer_frame o [] answer)
-      → Talk fv kn pv leader g point (served_link link (with_asked link.server) down) fs []
-  refused_talk kn pv leader g none answer refused point told wrote = record {
+  pub refused_talk : (kn : Member) (pv : Option Plain) (leader : Member) (g : Option Granted) (state : Option Role) → IsUnsaid g state → (answer : AskAnswer) → IsRefused answer → (point : Option ℕ) → PointAgrees answer point → down ≡ link.down ++ spelling (answer_frame o [] answer)
+      → Talk fv kn pv leader g state point (served_link link (with_asked link.server) down) fs []
+  refused_talk kn pv leader g state none answer refused point told wrote = record {
     asked = [];
     said = said ++ answer_frame o [] answer ∷ [];
     stands = EndsStand.IsRefusedYet none (record {
@@ -184,6 +204,7 @@ module _ (fv : Plain) (ask : StreamAsk) (link : PlainLink) (down : List ℕ) (f 
         not_more = seen_most;
         server = all_answered;
         consumer = t.consumer;
+        untold = t.untold;
         asked_is = refl;
         said_is = spoken_push said (answer_frame o [] answer) (answer_spoken o [] answer) ∙ ap (λ x. x ++ answer_frame o [] answer ∷ []) answers_said;
       };
@@ -195,7 +216,7 @@ module _ (fv : Plain) (ask : StreamAsk) (link : PlainLink) (down : List ℕ) (f 
   -- the producer's vBucket lets it continue
   module _ (pv : Plain) (kn pn : Member) (at : kn.position ≡ fv.position) (logs : pn.log ≡ pv.log) (in_front : IsFront pn.log pn.br) (short : length pn.log ≤ 25)
       (fits : All EntryFits pv.log) (active : is_active pv.role ≡ true) (free : stream_at (next_stream link.server) pv.streams ≡ None) (apart : producer_node link ≡ consumer_node link → ⊥)
-      (wrote : down ≡ link.down ++ spelling (answer_frame link.consumer.asked pv.log AskAnswer.Go)) where
+      (wrote : down ≡ link.down ++ spelling (answer_frame link.consumer.asked pv.log AskAnswer.Go)) (reached : effective_se ask.start ask.ss ask.se ≤ pn.position.at) where
     abbrev number : ℕ
     number = next_stream link.server
 
@@ -229,19 +250,21 @@ module _ (fv : Plain) (ask : StreamAsk) (link : PlainLink) (down : List ℕ) (f 
     low = let most = seen_most in grind (arith, nat_tests, most)
 
     marked_stream_begun : StreamAgrees o link.consumer.dialed.vb (granted ask pv.log) begun (Some opened_vb) pn
-        (record { u = pn.br; log = pn.log; flight = []; given = None }) (answered kn pn) false
+        (record { u = pn.br; log = pn.log; flight = []; given = None }) (answered kn pn) false Handing.Unstated
     marked_stream_begun = record {
       put = record {
         vb_is = refl;
         opaque_is = refl;
-        no_end = record { until = subst (λ (a : StreamAsk). top < a.end) (sym t.asks) (omega arith); marked = tt; gives = ap (λ (a : StreamAsk). gives_of a.flags) t.asks };
+        no_end = record { until = subst (λ (a : StreamAsk). top < a.end) (sym t.asks) (omega arith); marked = tt };
         fits = All-nil _;
         next_in = omega arith;
         last = refl;
         log_lines = sym logs;
         front_is = front_uuid pv.log pn.br (subst (λ l. IsFront l pn.br) logs in_front);
       };
-      opens = λ e. record { producer = opened_vb; producer_is = refl; active = active; leads = refl; opened = (new, opened_here, refl, refl, refl, refl) };
+      opens = λ e. record { producer = opened_vb; producer_is = refl; active = active; leads = refl; reached = λ none. reached; opened = (new, opened_here, refl, refl, refl, refl) };
+      given_in = refl;
+      all_taken = λ e. cc;
       over_ended = λ e. cc;
       coming = record { all = refl; last = tt };
       way = record {
@@ -262,7 +285,7 @@ module _ (fv : Plain) (ask : StreamAsk) (link : PlainLink) (down : List ℕ) (f 
     all_said = let most = seen_most in
         spoken_push said (answer_frame o pv.log AskAnswer.Go) (answer_spoken o pv.log AskAnswer.Go) ∙ ap (λ x. x ++ answer_frame o pv.log AskAnswer.Go ∷ []) answers_said ∙ sym (drop-append-le t.seen (first_answers dialed) (answer_frame o pv.log AskAnswer.Go ∷ []) (omega (arith, most, answers_count dialed)))
 
-    pub granted_talk : (point : Option ℕ) → Talk fv (answered kn pn) (Some opened_vb) pn (Some (granted ask pv.log)) point granted_link fs []
+    pub granted_talk : (point : Option ℕ) → Talk fv (answered kn pn) (Some opened_vb) pn (Some (granted ask pv.log)) None point granted_link fs []
     granted_talk point = record {
       asked = [];
       said = said ++ answer_frame o pv.log AskAnswer.Go ∷ [];
@@ -275,10 +298,14 @@ module _ (fv : Plain) (ask : StreamAsk) (link : PlainLink) (down : List ℕ) (f 
           numbered = omega arith;
           apart = apart;
           server = all_answered;
-          acks = All-nil (IsAcknowledgement [] o link.consumer.dialed.vb);
+          handing = Handing.Unstated;
+          gives_is = gives_flagged dialed.takeover ask (request_of fv.log fv.position) t.asks;
+          dialed_so = λ e. refl;
+          acks = record { each = All-nil (IsUpward [] o link.consumer.dialed.vb); answers_are = refl };
           unput = [];
           unput_is = refl;
           all_put = λ e. refl;
+          stated_behind = λ e. refl;
         };
         feed = new_feed;
         fed = refl;
@@ -288,11 +315,14 @@ module _ (fv : Plain) (ask : StreamAsk) (link : PlainLink) (down : List ℕ) (f 
           not_more = let most = seen_most in omega (arith, most);
           consumer = t.consumer;
           adopted = sym low;
+          taken_is = t.untold;
+          granted_first = λ e. none_taken e;
+          flag_is = λ e. ap (λ (a : StreamAsk). a.flags) t.asks ∙ ap (λ b. if b then 1 else 0) e;
           asks = λ e. (ap (λ (a : StreamAsk). a.start) t.asks, ap (λ (a : StreamAsk). a.ss) t.asks, ap (λ (a : StreamAsk). a.se) t.asks);
         };
-        streams = subst (λ b. StreamAgrees o link.consumer.dialed.vb (granted ask pv.log) begun (Some opened_vb) pn new_feed (answered kn pn) (b && not fv.first)) (sym low) marked_stream_begun;
+        streams = subst (λ b. StreamAgrees o link.consumer.dialed.vb (granted ask pv.log) begun (Some opened_vb) pn new_feed (answered kn pn) (b && not fv.first) Handing.Unstated) (sym low) marked_stream_begun;
         all = ap (λ l. drop t.seen (first_answers dialed ++ answer_frame o l AskAnswer.Go ∷ []) ++ []) logs ∙ ap (λ x. x ++ []) (sym all_said);
-      });
+      }) refl;
       ups = last_up end (answer_frame o pv.log AskAnswer.Go);
       downs = last_down end (answer_frame o pv.log AskAnswer.Go) wrote
           (granted_readable o pv.log t.consumer.small (subst (λ l. length l ≤ 25) logs short) fits);

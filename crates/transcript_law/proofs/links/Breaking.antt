@@ -10,8 +10,8 @@ use Rattle.transcript_law.proofs.{Words.{Chronicle, after_lines}, invariant.Agre
 use Rattle.transcript_law.proofs.invariant.Agreement.{Agrees, LinkAgrees, consumer_seat, AgreesIn, idle}
 use Rattle.transcript_law.proofs.{invariant.OneLink.{disk_here, carries_same}}
 use Rattle.transcript_law.proofs.{links.Downing.{Line, put_kept, so_far, link_now}}
-use Rattle.transcript_law.proofs.{links.Downing.{there, now, gone, lifted_at, Reached, same_powers, shelf_now, shelves_but, found_now, vb_put}, disks.Disks.{ShelfIs, parts_of, power_in}}
-use Rattle.transcript_law.proofs.{links.Onward.{Kept, onward_all, onward_none, unarmed}}
+use Rattle.transcript_law.proofs.{links.Downing.{Phase, there, now, gone, lifted_at, Reached, same_powers, shelf_now, shelves_but, found_now, vb_put}, disks.Disks.{ShelfIs, parts_of, power_in}}
+use Rattle.transcript_law.proofs.{links.Onward.{Kept, onward_all, onward_beside, onward_level, onward_none, unarmed}}
 use Rattle.branch_model.specs.Journals.{IsPoint, complete_points, roll_point}
 use Rattle.{disk_journals.specs.Arms.{under}, node_world.specs.Arms.{lifted}, node_world.specs.Nodes.{with_kept}}
 use Rattle.{node_core.specs.Dials.{rolled_back}}
@@ -23,13 +23,13 @@ use Rattle.vb_disk.specs.declared.fuse.Fuse.{Fuse}
 use Rattle.vb_disk.specs.declared.fuse.Fuse.TheVariants.{Off}
 use Rattle.transcript_law.proofs.invariant.JobSteps.{shelf_found}
 use Rattle.vb_types.specs.declared.journal.Record.TheVariants as noted
-use Rattle.transcript_law.proofs.{disks.ArmedLines.{ArmedCame}, disks.Appending.{Renoted, Rewritten, breaks, broken, noted_agrees, unwritten}, disks.Burning.{BreaksUnder, breaks_under, quiet_same}, invariant.Carried.{numbers, told_of_same}, links.Downing.{FiredIn, broken_answer, ended_agrees, vb_moved}, invariant.LinkRows.{found_is_link}, invariant.Agreement.{is_down}, links.Rolling.{closed_came, failed_came}}
+use Rattle.transcript_law.proofs.{disks.ArmedLines.{ArmedCame}, disks.Appending.{Renoted, Rewritten, breaks, broken, noted_agrees, unwritten}, disks.Burning.{BreaksUnder, breaks_under, quiet_same}, invariant.Carried.{numbers, told_of_same}, links.Downing.{EndsSo, FiredIn, broken_answer, ended_agrees, vb_moved}, invariant.LinkRows.{found_is_link}, invariant.Agreement.{is_down}, links.Rolling.{closed_came, failed_came}}
 use Rattle.{transcript_law.specs.Chronicles.{after_append, appending, late_record, with_disk}, vb_calls.specs.Shelves.{late_of}, vb_types.specs.declared.journal.Record.{Record}, vb_events.specs.declared.event.EndReason.TheVariants.{Disk}, vb_calls.specs.declared.journals.Rolled.{Rolled as RolledJob}}
 use Rattle.{cluster_model.specs.Clusters.{Disk as DiskOf}, node_world.specs.Arms.{fired_by}, node_world.specs.Worlds.{arm_in, is_up}, node_world.specs.declared.arm.Arm.{Arm}, node_world.specs.declared.arm.Fired.{Fired}, disk_journals.specs.Books.{Book}}
 use Rattle.vb_calls.specs.declared.journals.Rolled.TheVariants as rolled_as
 use Rattle.vb_events.specs.declared.event.Answer.TheVariants as answer
 use Rattle.vb_events.specs.declared.event.Cause.TheVariants as cause
-use Rattle.transcript_law.proofs.links.Retreating.{Back, none_left, power_here, was, unlinks, over_lifts, left_of, burnt, journal, written, rolls, point_there, known, back_stood, told_closed}
+use Rattle.transcript_law.proofs.links.Retreating.{Back, none_left, power_here, was, unlinks, over_lifts, left_of, burnt, journal, written, rolls, point_there, known, back_stood, told_closed, none_pended, none_told}
 use Rattle.transcript_law.proofs.links.Retreating as retreat
 
 module _ (line : Line) (back : Back line) where
@@ -139,8 +139,8 @@ module _ (line : Line) (back : Back line) where
         over = Some Disk;
         events = events;
         same = same;
-        rolled = true;
-        stage = (none_left line back, record { lawful = going.lawful; quiet = going.quiet; what = what; rolls = rolls line back; dials = (onward_all r events going.onward.lines).dials; none_taken = none_yet line back; came = (how.0, how.1, onward_none events going.onward.lines) });
+        phase = Phase.Rolled;
+        stage = (none_left line back, record { lawful = going.lawful; quiet = going.quiet; what = what; rolls = rolls line back; dials = (onward_all r events going.onward.lines).dials; none_taken = none_yet line back; untold = none_told line back; took = none_pended line back; uncut = λ e. cc; beside = onward_beside events going.onward.lines; ending = λ why q. subst (λ k. EndsSo line k events) (let z : Some Disk ≡ Some why = q in let y : Disk ≡ why = cc in y) tt; level = onward_level events going.onward.lines; came = (how.0, how.1, onward_none events going.onward.lines) });
       }
 
   roll_shut : (x : Shelf) (came : RolledJob) → after_job (roll_job v named) states.0 states.1 ≡ (shut_kept x, came) → after_job (lift (rolled_back named s came)) (shut_kept x).0 (shut_kept x).1 ≡ (shut_kept x, so_far line at (Some Disk) events)
@@ -153,7 +153,7 @@ module _ (line : Line) (back : Back line) where
   back_closed shut =
       let same : left (shut_kept shelf) ≡ fuse = left_of line back (shut_kept shelf) shelf (shelf_found states.1 v shelf) ∙ (journal line back).2 in
       let x = over_lifts line back (shut_kept shelf) in
-      shut_reached shelf (roll_shut shelf rolled_as.Closed (closed_came states.0 states.1 v named fv shelf (known line back) mine.follows (journal line back).1 shut) refl)
+      shut_reached shelf (roll_shut shelf rolled_as.Closed (closed_came states.0 states.1 v named fv shelf (known line back) (retreat.follows line back) (journal line back).1 shut) refl)
       (subst (Came (shut_kept shelf)) (sym (ap (fired_by fuse) same ∙ quiet_same fuse)) (
         (
           (unwritten cut_off k cut_agrees.sound).now,
@@ -209,7 +209,7 @@ module _ (line : Line) (back : Back line) where
         off_in (Some x) = x.off
 
     back_broken : Reached line rest (after_job (roll_back named s) states.0 states.1)
-    back_broken = shut_reached broken_off (roll_shut broken_off rolled_as.DiskFailed (failed_came states.0 states.1 v named fv shelf (known line back) mine.follows (journal line back).1 opens (ap all_pass (journal line back).2 ∙ hit)) refl)
+    back_broken = shut_reached broken_off (roll_shut broken_off rolled_as.DiskFailed (failed_came states.0 states.1 v named fv shelf (known line back) (retreat.follows line back) (journal line back).1 opens (ap all_pass (journal line back).2 ∙ hit)) refl)
         (subst (λ g. Came (shut_kept broken_off) (fired_by fuse g)) (sym left_none) (⊎_elim
         (λ h. subst (Came (shut_kept broken_off)) (sym h.1) ((refl, broken_agrees), (told_closed line back ∙ opens, h.0)))
         (λ h. subst (Came (shut_kept broken_off)) (sym h.1) ((refl, up_by ((unlinked link (lifted_at line (shut_kept broken_off))).nodes n) (record power { arm = (lifted v (with_kept node (shut_kept broken_off))).arm }) (over_lifts line back (shut_kept broken_off)).armed runs, broken_agrees), (told_closed line back ∙ opens, h.0)))

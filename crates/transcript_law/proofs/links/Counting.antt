@@ -5,55 +5,22 @@ use Rattle.durability.specs.Outstanding.{with_ack}
 use Rattle.mcbp_frame.proofs.Pieces.{frames-left, left-left}
 use Rattle.node_core.specs.Calls.{own_lines}
 use Rattle.node_world.specs.{Links.{frame_up}, Nodes.{all_posted}}
-use Rattle.transcript_law.proofs.Words.{ℕ, Bool, true, false, List, [], map, refl, ap, sym, ◌∙◌, subst, arith, append-nil, append_assoc, eq-eqb, Option, Some, None, is_some, last_seq, ltb-false, LawfulCounted, LawfulLine, PlainStream, Role, All, All-head, All-tail, Frame, spelling, Readable, frames_in, left_of, dcp_frame, Event, Status, StreamName}
+use Rattle.transcript_law.proofs.Words.{ℕ, Bool, true, false, List, [], map, refl, ap, sym, ◌∙◌, subst, arith, append-nil, append_assoc, eq-eqb, Option, Some, None, is_some, last_seq, ltb-false, LawfulCounted, LawfulLine, PlainStream, Role, All, Frame, spelling, Readable, frames_in, left_of, dcp_frame, Event, Status, StreamName}
 use Rattle.transcript_law.proofs.Words.{Plain, is_active, newest_branch, quiet_reply, refusal_reply, after, row_at, row_put, States, with_vb_at, call_at, VbAnswer, VbCall, VbReply, Member, Granted, StaysSound, Served, begun, frame_answered, status_sent}
-use Rattle.transcript_law.proofs.Words.{DcpMsg, Done, Handshake, ⊎_elim, PlainProducer, PlainConsumer, PeerResult, PlainLink, link_number, producer_node, PlainNode, PlainWorld, with_states, with_node_at, with_links, vb_in, shelf_in, Chronicle, after_line, after_lines, stream_branch, LawfulFrom}
-use Rattle.transcript_law.proofs.invariant.Agreement.{active_counts, Agrees, AgreesAt, AgreesIn, EndsStand, IsAcknowledgement, IsBytesAcknowledgement, IsSeqnoAcknowledgement, IsWriter, IsWriterIf, LinkAgrees, kept_stream, Streaming, Talk, VbAgrees, Wants, consumer_seat, idle, is_refused_ack, producer_seat, spoken, vb_of, wants_of, DownAgrees, UpIs}
+use Rattle.transcript_law.proofs.Words.{DcpMsg, Done, Handshake, inl, inr, ⊎_elim, PlainProducer, PeerResult, PlainLink, link_number, producer_node, PlainNode, PlainWorld, with_states, with_node_at, with_links, vb_in, shelf_in, Chronicle, after_line, after_lines, stream_branch, LawfulFrom}
+use Rattle.transcript_law.proofs.invariant.Agreement.{active_counts, Agrees, AgreesAt, AgreesIn, EndsStand, Heir, IsAcknowledgement, IsBytesAcknowledgement, IsSeqnoAcknowledgement, IsUpward, IsWriter, IsWriterIf, LinkAgrees, kept_stream, Streaming, Talk, UpwardIs, VbAgrees, answers_in, stated_in, consumer_seat, heir_answers, idle, is_refused_ack, producer_seat, spoken, vb_of, wants_of, DownAgrees, UpIs}
 use Rattle.transcript_law.proofs.{invariant.Counts.{counts_agree}, invariant.Majorities.{counts_more}}
 use Rattle.transcript_law.specs.Chronicles.{after_count}
 use Rattle.transcript_law.proofs.{invariant.Carried.{talk_same, told_of_same}, lines.ClientLines.{clients_quiet}, disks.Disks.{beside_in}, invariant.JobSteps.{put_over}, invariant.LinkRows.{put_is_found, put_twice}, lines.Lines.{AreQuiet, after_more, lawful_more, quiet_more}}
 use Rattle.transcript_law.proofs.answers.{Claims.{ClaimAt, call_claims, changes_claim}, Committed.{AllHowTold, all_claimed, all_told}, Explained.{explained}, Calm.{OfDurable, durable_settled, durable_told}}
 use Rattle.vbucket.proofs.RowIs.{Counts}
 use Rattle.{durability.specs.declared.waiting.Waiting.{Waiting}, vb_types.specs.declared.change.Pend.{Pend}, transcript_law.specs.{Feeding.{client_in}, LawfulAnswers.{AllDurable}}}
-use Rattle.transcript_law.proofs.{verbs.NodeLines.{node_changed, node_grown, put_same, shelves_again, shelves_put}, links.Posting.{posts_go, posts_of_clients, posts_ranged}, invariant.Ranged.{NodeRanged}, links.Requests.{ack_answered, all_set, bytes_answered, passed_end}, links.Windows.{streaming_served}, invariant.Seats.{seat}}
+use Rattle.transcript_law.proofs.{verbs.NodeLines.{node_changed, node_grown, put_same, shelves_again, shelves_put}, links.Posting.{posts_go, posts_of_clients, posts_ranged}, invariant.Ranged.{NodeRanged}, links.Requests.{ack_answered, all_set, bytes_answered, passed_end}, links.Windows.{stands_served}, links.Heard.{owned_heard, pended_heard}, links.Upgoing.{CountsBy, ack_unanswered, acks_left, heir_counts, heir_left, streaming_counts, upward_behind, upward_front}, invariant.Seats.{seat}}
 use Rattle.transcript_law.proofs.verbs.Settling.{SettlesOn, Steady, changes_quiet, changes_told, settled_told, settles}
-use Rattle.transcript_law.proofs.{links.Spoken.{spoken_pushed}, invariant.Tables.{if_known}, links.Talks.{come, more_down, next_up}, lines.Telling.{LawfulBefore, before_more, none_before, told_more}, links.Unread.{answering, heard_link, readable_up, reread, unread}}
+use Rattle.transcript_law.proofs.{links.Spoken.{spoken_pushed, status_readable}, invariant.Tables.{if_known}, links.Talks.{come, more_down, next_up}, lines.Telling.{LawfulBefore, before_more, none_before, told_more}, links.Unread.{answering, heard_link, readable_up, reread, unread}}
 use Rattle.transcript_law.proofs.links.Upward.{Now, answered_at, came_of, found_at, frame_came, link_now, quiet_at, same_vbs, served_at, vb_here, world_at}
 use Rattle.vb_calls.specs.{Settling.{also_resolved, and_settled, settled, unresolved}}
-use Rattle.vb_types.specs.Statuses.{status_code}
 use Rattle.vbucket.proofs.Preparing.{ack_sound}
-
--- a status has room in its field
-status_small : (st : Status) → status_code st < 2 ^ 16
-status_small Status.Success = omega arith
-status_small other = omega arith
-
--- a reader takes an answer that has a status alone
-status_readable : (f : Frame) (st : Status) → f.opaque < 2 ^ 32 → Readable (status_frame f st)
-status_readable f st few = record {
-  fits = record { framing = omega arith; extras = omega arith; key = omega arith; body = omega arith };
-  magic = refl;
-  limit = omega arith;
-  vb_or_status = status_small st;
-  opaque = few;
-  cas = omega arith;
-}
-
--- the same stream, with other acknowledgements on their way
-pub acks_left : {fv : Wants} {kn : Member} {pv : Option Plain} {leader : Member} {g : Option Granted} {served : PlainProducer} {asker : PlainConsumer} {up put : List Frame} (t : Streaming fv kn pv leader g served asker up put) (rest : List Frame)
-    → All (IsAcknowledgement t.granted_is.wrote asker.asked asker.dialed.vb) rest → Streaming fv kn pv leader g served asker rest put
-acks_left t rest acks = record {
-  granted_is = t.granted_is;
-  told = t.told;
-  serving = record { stream = t.stream; stream_is = t.stream_is; numbered = t.numbered; apart = t.apart; server = t.server; acks = acks; unput = t.unput; unput_is = t.unput_is; all_put = t.all_put };
-  feed = t.feed;
-  fed = t.fed;
-  log_fits = t.log_fits;
-  seen = t.seen;
-  taking = t.taking;
-  streams = t.streams;
-  all = t.all;
-}
 
 module _ (stays : StaysSound) (steady : Steady) (w0 : PlainWorld) (r0 : Chronicle) (n : ℕ) (link0 : PlainLink) (found : row_at link_number (link_number link0) w0.links ≡ Some link0) where
   abbrev l : ℕ
@@ -72,20 +39,41 @@ module _ (stays : StaysSound) (steady : Steady) (w0 : PlainWorld) (r0 : Chronicl
   abbrev So : List Frame → PlainNode × PeerResult → Type 0
   So fs x = Now w0 r0 n link0 found fs x
 
-  -- the link's stream, with a frame about to be answered
-  abbrev pub StreamingNow : (f : Frame) (fs : List Frame) (x : PlainNode × PeerResult) → So (f ∷ fs) x → Type 0
-  StreamingNow f fs x now =
-      let la = link_now w0 r0 n link0 found (f ∷ fs) x now in
-      Streaming (wants_of la.follower) (now.cluster.nodes (consumer_seat link0)) (vb_of (world_at w0 r0 n link0 found x) (producer_node (served_at w0 r0 n link0 found x.1)) v) (now.cluster.nodes (producer_seat (served_at w0 r0 n link0 found x.1)))
-      ((after_lines r0 x.1.events).stream_of (StreamName.Link l) v) x.1.peer.producer link0.consumer la.talk.asked (spoken la.talk.said)
+  -- a frame is about to be answered
+  module _ (f : Frame) (fs : List Frame) (x : PlainNode × PeerResult) (now : So (f ∷ fs) x) where
+    abbrev here_now : PlainLink
+    here_now = served_at w0 r0 n link0 found x.1
 
-  -- what is on its way, and is an acknowledgement each
-  all_acks : (f : Frame) (fs : List Frame) (x : PlainNode × PeerResult) (now : So (f ∷ fs) x) (t : StreamingNow f fs x now)
-      → All (IsAcknowledgement t.granted_is.wrote o v) (f ∷ (fs ++ (link_now w0 r0 n link0 found (f ∷ fs) x now).talk.ups.behind))
-  all_acks f fs x now t = subst (All (IsAcknowledgement t.granted_is.wrote o v)) (link_now w0 r0 n link0 found (f ∷ fs) x now).talk.ups.joined t.acks
+    abbrev la_now : LinkAgrees (world_at w0 r0 n link0 found x) (after_lines r0 x.1.events) now.cluster here_now (f ∷ fs) []
+    la_now = link_now w0 r0 n link0 found (f ∷ fs) x now
+
+    -- what is on its way behind it
+    abbrev rest_now : List Frame
+    rest_now = fs ++ la_now.talk.ups.behind
+
+    abbrev pv_now : Option Plain
+    pv_now = vb_of (world_at w0 r0 n link0 found x) (producer_node here_now) v
+
+    abbrev told_now_of : Option Granted
+    told_now_of = (after_lines r0 x.1.events).stream_of (StreamName.Link l) v
+
+    -- the link's stream, with these frames on their way up, that of an heir, and where the link's ends stand
+    abbrev StreamingWith : List Frame → Type 0
+    StreamingWith up = Streaming (wants_of la_now.follower) (now.cluster.nodes (consumer_seat link0)) pv_now (now.cluster.nodes (producer_seat here_now)) told_now_of x.1.peer.producer link0.consumer up (spoken la_now.talk.said)
+
+    abbrev HeirWith : List Frame → Type 0
+    HeirWith up = Heir pv_now told_now_of x.1.peer.producer link0.consumer up (spoken la_now.talk.said)
+
+    abbrev StandsWith : List Frame → Type 0
+    StandsWith up =
+        EndsStand (wants_of la_now.follower) (now.cluster.nodes (consumer_seat link0)) pv_now (now.cluster.nodes (producer_seat here_now)) told_now_of ((after_lines r0 x.1.events).stated_of l) ((after_lines r0 x.1.events).point_of l) x.1.peer.producer link0.consumer up (spoken la_now.talk.said)
+
+    -- what it counts by
+    abbrev CountsNow : Type 0
+    CountsNow = CountsBy pv_now (now.cluster.nodes (producer_seat here_now)) told_now_of x.1.peer.producer link0.consumer
 
   -- the frame is an acknowledgement of a seqno
-  module _ (f : Frame) (fs : List Frame) (x : PlainNode × PeerResult) (now : So (f ∷ fs) x) (t : StreamingNow f fs x now) (it : IsSeqnoAcknowledgement t.granted_is.wrote o v f) where
+  module _ (f : Frame) (fs : List Frame) (x : PlainNode × PeerResult) (now : So (f ∷ fs) x) (t : CountsNow f fs x now) (left : StandsWith f fs x now (rest_now f fs x now)) (it : IsSeqnoAcknowledgement t.granted_is.wrote o v f) where
     abbrev end : PlainProducer
     end = x.1.peer.producer
 
@@ -160,12 +148,12 @@ module _ (stays : StaysSound) (steady : Steady) (w0 : PlainWorld) (r0 : Chronicl
 
     -- where the link stands behind it
     talk_left : (out : List ℕ) (said : List Frame) → spoken said ≡ spoken la.talk.said → (let y = answered_at w0 r0 n link0 found x x.0.vbs end [] out in let there = served_at w0 r0 n link0 found y.1 in
-        DownAgrees there [] said → Talk la.follower (now.cluster.nodes (consumer_seat link0)) (vb_of (world_at w0 r0 n link0 found x) (producer_node here) v) (now.cluster.nodes (producer_seat here)) (r.stream_of (StreamName.Link l) v) (r.point_of l) there fs [])
+        DownAgrees there [] said → Talk la.follower (now.cluster.nodes (consumer_seat link0)) (vb_of (world_at w0 r0 n link0 found x) (producer_node here) v) (now.cluster.nodes (producer_seat here)) (r.stream_of (StreamName.Link l) v) (r.stated_of l) (r.point_of l) there fs [])
     talk_left out said same downs = record {
       asked = rest;
       said = said;
-      stands = EndsStand.IsStreaming (subst (Streaming (wants_of la.follower) (now.cluster.nodes (consumer_seat link0)) (vb_of (world_at w0 r0 n link0 found x) (producer_node here) v) (now.cluster.nodes (producer_seat here)) (r.stream_of (StreamName.Link l) v)
-          end link0.consumer rest) (sym same) (acks_left t rest (All-tail (IsAcknowledgement t.granted_is.wrote o v) f rest (all_acks f fs x now t))));
+      stands = subst (EndsStand (wants_of la.follower) (now.cluster.nodes (consumer_seat link0)) (vb_of (world_at w0 r0 n link0 found x) (producer_node here) v) (now.cluster.nodes (producer_seat here)) (r.stream_of (StreamName.Link l) v) (r.stated_of l) (r.point_of l)
+          end link0.consumer rest) (sym same) left;
       ups = next_up here end (link0.down ++ (x.1.out ++ out)) f f f fs rest (subst (UpIs here (f ∷ fs)) la.talk.ups.joined la.talk.ups);
       downs = downs;
     }
@@ -175,8 +163,8 @@ module _ (stays : StaysSound) (steady : Steady) (w0 : PlainWorld) (r0 : Chronicl
         → DownAgrees (served_at w0 r0 n link0 found (answered_at w0 r0 n link0 found x st end lines out).1) [] said → So fs (answered_at w0 r0 n link0 found x st end lines out)
     left_on st same lines lawful told out said spoke downs =
         let y = answered_at w0 r0 n link0 found x st end lines out in
-        quiet_at w0 r0 n link0 found (f ∷ fs) fs x now st same end lines out refl (λ v id has. has) lawful r told (told_of_same l r) refl refl refl
-        (talk_same refl (same_vbs w0 r0 n link0 found x y same end.desk.node v) refl refl refl (talk_left out said spoke downs))
+        quiet_at w0 r0 n link0 found (f ∷ fs) fs x now st same end lines out refl (λ v id has. has) lawful r told (told_of_same l r) refl refl refl refl
+        (talk_same refl (same_vbs w0 r0 n link0 found x y same end.desk.node v) refl refl refl refl (talk_left out said spoke downs))
 
     -- it is refused
     refused_now : (st : Status) (states : States) → ((q : ℕ) → states q ≡ x.0.vbs q) → So fs (came_of w0 r0 n link0 found x (states, status_sent f st s))
@@ -185,7 +173,7 @@ module _ (stays : StaysSound) (steady : Steady) (w0 : PlainWorld) (r0 : Chronicl
         let a : Frame = status_frame f st in
         left_on states same [] (none_before r) refl (spelling a) (la.talk.said ++ a ∷ []) (spoken_pushed la.talk.said a (dropped st))
         (more_down here end (link0.down ++ (x.1.out ++ spelling a)) a la.talk.said (sym (append_assoc link0.down x.1.out (spelling a)))
-        (status_readable f st (subst (λ k. k < 2 ^ 32) (sym opaque_is) t.consumer.small)) la.talk.downs)
+        (status_readable f st (subst (λ k. k < 2 ^ 32) (sym opaque_is) t.small)) la.talk.downs)
 
     -- a vBucket of the producer's node is to count it
     module _ (member : ℕ) (own : link0.consumer.dialed.node ≡ member) (live : (t.granted_is.over ≡ false) × (t.stream.ended ≡ false)) (pv : Plain) (known : x.0.vbs v ≡ Some pv) where
@@ -221,7 +209,7 @@ module _ (stays : StaysSound) (steady : Steady) (w0 : PlainWorld) (r0 : Chronicl
         on_branch =
             let br : ℕ = (now.cluster.nodes (seat m v)).br in
             let writes : IsWriter r.tree (r.writer_of br) (r.branch_at m v) m v br = subst (λ b. IsWriterIf b r.tree (r.writer_of br) (r.branch_at m v) m v br) active before.writes in
-            writes.branch ∙ ap Some (ap (λ k. (now.cluster.nodes (seat k v)).br) (sym node_is) ∙ (t.streams.opens live.1).leads ∙ sym t.streams.front_is)
+            writes.branch ∙ ap Some (ap (λ k. (now.cluster.nodes (seat k v)).br) (sym node_is) ∙ t.on_branch live.1 live.0 pv (ap (λ k. vb_of (world_at w0 r0 n link0 found x) k v) node_is ∙ vb_here w0 r0 n link0 found x v ∙ known) active)
 
         is_counted : LawfulCounted r l m v member seq
         is_counted = record {
@@ -444,8 +432,8 @@ module _ (stays : StaysSound) (steady : Steady) (w0 : PlainWorld) (r0 : Chronicl
         ∙ ap (λ b. came_of w0 r0 n link0 found x (after (if b then count_requested f seq s weight else Done (status_sent f Status.Einval s)) x.0.vbs)) shaken)) (by_weight weight refl)
 
   -- it is one of bytes: the producer has another window, and else all is as it was
-  bytes_next : (f : Frame) (fs : List Frame) (x : PlainNode × PeerResult) (now : So (f ∷ fs) x) (t : StreamingNow f fs x now) → IsBytesAcknowledgement o f → So fs (frame_up f x)
-  bytes_next f fs x now t (bytes, is, low) =
+  bytes_next : (f : Frame) (fs : List Frame) (x : PlainNode × PeerResult) (now : So (f ∷ fs) x) → CountsNow f fs x now → StandsWith f fs x now (rest_now f fs x now) → IsBytesAcknowledgement o f → So fs (frame_up f x)
+  bytes_next f fs x now t left (bytes, is, low) =
       let s : Served = begun x.1.peer.producer in let r : Chronicle = after_lines r0 x.1.events in let named : Named = Named.Member link0.consumer.dialed.node in
       let opened : s.end.handshake ≡ Handshake.Open true named = t.server ∙ all_set link0.consumer.dialed in
       let frame : Frame = dcp_frame (DcpMsg.BufferAcknowledgement bytes) o 0 in
@@ -456,16 +444,56 @@ module _ (stays : StaysSound) (steady : Steady) (w0 : PlainWorld) (r0 : Chronicl
       let y : PlainNode × PeerResult = answered_at w0 r0 n link0 found x x.0.vbs end [] [] in
       let came : frame_answered f s ≡ Done (record s { end = end }) = ap (λ g. frame_answered g s) is ∙ bytes_answered o bytes s true named low opened in
       subst (So fs) (sym (frame_came w0 r0 n link0 found f x ∙ ap (λ p. came_of w0 r0 n link0 found x (after p x.0.vbs)) came))
-      (quiet_at w0 r0 n link0 found (f ∷ fs) fs x now x.0.vbs (λ q. refl) end [] [] refl (λ v id has. has) (none_before r) r refl (told_of_same l r) refl refl refl
-      (talk_same refl (same_vbs w0 r0 n link0 found x y (λ q. refl) end.desk.node v) refl refl refl (record {
+      (quiet_at w0 r0 n link0 found (f ∷ fs) fs x now x.0.vbs (λ q. refl) end [] [] refl (λ v id has. has) (none_before r) r refl (told_of_same l r) refl refl refl refl
+      (talk_same refl (same_vbs w0 r0 n link0 found x y (λ q. refl) end.desk.node v) refl refl refl refl (record {
         asked = rest;
         said = la.talk.said;
-        stands = EndsStand.IsStreaming (streaming_served (acks_left t rest (All-tail (IsAcknowledgement t.granted_is.wrote o v) f rest (all_acks f fs x now t))) end (record { desk = refl; handshake = sym opened; asked = refl; streams = refl }));
+        stands = stands_served left end (record { desk = refl; handshake = sym opened; asked = refl; streams = refl });
         ups = next_up here end (link0.down ++ (x.1.out ++ [])) f f f fs rest (subst (UpIs here (f ∷ fs)) la.talk.ups.joined la.talk.ups);
         downs = subst (λ out. DownAgrees (record here { server = end; down = link0.down ++ out }) [] la.talk.said) (sym (append-nil x.1.out)) (record { behind = la.talk.downs.behind; joined = la.talk.downs.joined; bytes = la.talk.downs.bytes; readable = la.talk.downs.readable });
       })))
 
-  -- an acknowledgement is answered
-  pub ack_next : (f : Frame) (fs : List Frame) (x : PlainNode × PeerResult) (now : So (f ∷ fs) x) → StreamingNow f fs x now → So fs (frame_up f x)
-  ack_next f fs x now t =
-      ⊎_elim (λ it. seqno_next f fs x now t it) (λ it. bytes_next f fs x now t it) (All-head (IsAcknowledgement t.granted_is.wrote o v) f (fs ++ (link_now w0 r0 n link0 found (f ∷ fs) x now).talk.ups.behind) (all_acks f fs x now t))
+  module _ (f : Frame) (fs : List Frame) (x : PlainNode × PeerResult) (now : So (f ∷ fs) x) where
+    -- an acknowledgement is answered
+    ack_next : (t : CountsNow f fs x now) → StandsWith f fs x now (rest_now f fs x now) → IsAcknowledgement t.granted_is.wrote o v f → So fs (frame_up f x)
+    ack_next t left ack = ⊎_elim (λ it. seqno_next f fs x now t left it) (λ it. bytes_next f fs x now t left it) ack
+
+    -- what a consumer with a stream sent is answered, or heard
+    pub upward_next : (given : StreamingWith f fs x now (la_now f fs x now).talk.asked) → (after_lines r0 x.1.events).stated_of l ≡ stated_in given.serving.handing → So fs (frame_up f x)
+    upward_next given said = by (upward_front wrote o v answers f rest acks)
+      where
+        rest : List Frame
+        rest = rest_now f fs x now
+
+        wrote : List ℕ
+        wrote = given.granted_is.wrote
+
+        answers : List Frame
+        answers = answers_in o given.handing
+
+        acks : UpwardIs wrote o v answers (f ∷ rest)
+        acks = subst (UpwardIs wrote o v answers) (la_now f fs x now).talk.ups.joined given.acks
+
+        by : IsUpward wrote o v f → So fs (frame_up f x)
+        by (inl ack) = ack_next (streaming_counts given) (EndsStand.IsStreaming (acks_left given rest (upward_behind wrote o v answers f rest acks (ack_unanswered wrote o v f ack))) said) ack
+        by (inr answer) = pended_heard w0 r0 n link0 found f fs x now answer (acks_left given (f ∷ rest) acks) said
+
+    -- the same of an heir's
+    pub heir_next : HeirWith f fs x now (la_now f fs x now).talk.asked → (after_lines r0 x.1.events).stated_of l ≡ Some Role.Active → So fs (frame_up f x)
+    heir_next given said = by (upward_front wrote o v answers f rest acks)
+      where
+        rest : List Frame
+        rest = rest_now f fs x now
+
+        wrote : List ℕ
+        wrote = given.granted_is.wrote
+
+        answers : List Frame
+        answers = heir_answers o given.answered
+
+        acks : UpwardIs wrote o v answers (f ∷ rest)
+        acks = subst (UpwardIs wrote o v answers) (la_now f fs x now).talk.ups.joined given.acks
+
+        by : IsUpward wrote o v f → So fs (frame_up f x)
+        by (inl ack) = ack_next (heir_counts given) (EndsStand.IsHeir (heir_left given rest (upward_behind wrote o v answers f rest acks (ack_unanswered wrote o v f ack))) said) ack
+        by (inr answer) = owned_heard w0 r0 n link0 found f fs x now answer (heir_left given (f ∷ rest) acks) said

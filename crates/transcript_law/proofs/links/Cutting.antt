@@ -1,6 +1,6 @@
 -- a link that ends: its stream is closed at its producer's vBucket
 use Rattle.std.specs.Prelude.{◌≡◌, ◌⊎◌, ◌∷◌, ◌==◌, if◌then◌else◌}
-use Rattle.transcript_law.proofs.Words.{ℕ, Bool, true, false, cond, List, [], refl, ap, sym, ◌∙◌, subst, inl, inr, ⊎_elim, Option, Some, None, not, eqb-true, ne_eqb, Frame, Granted, Member}
+use Rattle.transcript_law.proofs.Words.{ℕ, Bool, true, false, cond, List, [], refl, ap, sym, ◌∙◌, subst, inl, inr, ⊎_elim, Option, Some, None, not, eqb-true, ne_eqb, Frame, Granted, Member, Role}
 use Rattle.transcript_law.proofs.Words.{Stream, Plain, Done, Call, after, States, with_vb_at, call_at, stream_at, Sound, StaysSound, row_out, Cluster, PlainStream, PlainLink, link_number}
 use Rattle.transcript_law.proofs.Words.{producer_node, PlainNode, PlainWorld, with_node_at, with_links, with_states, vb_in, node_if, unlinked, Chronicle, VbCall, Prog, without_stream, close_row}
 use Rattle.transcript_law.proofs.Words.{streams_closed, end_closed}
@@ -31,7 +31,7 @@ closable busy w r c link up down a la = by la.talk.stands
   where
     sound : (stream : PlainStream) → HasOpen stream.vb stream.id link.server.streams → (stream.vb ≡ link.consumer.dialed.vb) × (pv : Plain) × (vb_of w (producer_node link) link.consumer.dialed.vb ≡ Some pv) × Sound pv
     sound stream has =
-        let (pv, is, active, s, opened, at) = stream_opened w r c link up down la stream.vb stream.id has in
+        let (pv, is, feeds, s, opened, at) = stream_opened w r c link up down la stream.vb stream.id has in
         let agrees : VbAgrees r (producer_node link) link.consumer.dialed.vb (c.nodes (seat (producer_node link) link.consumer.dialed.vb)) pv
         = subst (AgreesAt r (producer_node link) link.consumer.dialed.vb (c.nodes (seat (producer_node link) link.consumer.dialed.vb))) is (a.vbs (producer_node link) link.consumer.dialed.vb) in
         (sym at, pv, is, agrees.sound)
@@ -40,10 +40,11 @@ closable busy w r c link up down a la = by la.talk.stands
     kept stream true e = inl e
     kept stream false e = inr (stream, e, λ ended. sound stream (subst (HasOpen stream.vb stream.id) (sym e) (inl (refl, refl, ended))))
 
-    by : {fv : Wants} {kn : Member} {pv : Option Plain} {leader : Member} {g : Option Granted} {point : Option ℕ} {asked said : List Frame} → EndsStand fv kn pv leader g point link.server link.consumer asked said → IsClosable w link
+    by : {fv : Wants} {kn : Member} {pv : Option Plain} {leader : Member} {g : Option Granted} {said_last : Option Role} {point : Option ℕ} {asked said : List Frame} → EndsStand fv kn pv leader g said_last point link.server link.consumer asked said → IsClosable w link
     by (EndsStand.IsAsking ask none t) = inl t.no_stream
     by (EndsStand.IsRefusedYet none t) = inl t.no_stream
-    by (EndsStand.IsStreaming t) = kept t.stream t.granted_is.over t.stream_is
+    by (EndsStand.IsStreaming t stated) = kept t.stream t.granted_is.over t.stream_is
+    by (EndsStand.IsHeir t stated) = kept t.stream t.granted_is.over t.stream_is
 
 module _ (stays : StaysSound) (w : PlainWorld) (link : PlainLink) where
   abbrev p : ℕ

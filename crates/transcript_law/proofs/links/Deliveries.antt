@@ -1,16 +1,17 @@
 -- what a consumer acknowledges by bytes behind a delivery
 use Rattle.std.specs.Prelude.{◌≡◌, ◌+◌, ◌<◌, ◌≤◌, ◌∷◌, ◌++◌, ◌==◌, ◌&&◌, ◌||◌, ◌-◌, ◌^◌, min, if◌then◌else◌}
-use Rattle.transcript_law.proofs.Words.{ℕ, Bool, true, false, List, [], fold, length, refl, ap, sym, ◌∙◌, subst, arith, inr, ⊎_elim, append_assoc, is_some, not, Option, Some, None, Ok, Result, All-push, Frame, RESPONSE, spelling, Readable, DcpMsg, dcp_frame, EndReason, Event, Member, Plain, PlainConsumer}
+use Rattle.transcript_law.proofs.Words.{ℕ, Bool, true, false, List, [], fold, length, refl, ap, sym, ◌∙◌, subst, arith, inr, ⊎_elim, append_assoc, Role, is_some, not, Option, Some, None, Ok, Result, All-push, Frame, RESPONSE, spelling, Readable, DcpMsg, dcp_frame, EndReason, Event, Member, Plain, PlainConsumer}
 use Rattle.transcript_law.proofs.Words.{PlainLink, PlainWorld, Granted, Chronicle, Cluster, after_lines, link_number, consumer_node, producer_node, row_at, row_put, DialResult, with_consumer, frame_taken, frames_taken, call_made, job_stepped, after_job, after_job_fold, States, Job, Ended, Prog, Call, Done, VbReply, VbAnswer, over_why, with_links}
 use Rattle.transcript_law.proofs.Words.{eqb-false, with_handshake}
 use Rattle.std.proofs.lemmas.Bool.{false_from_ne_true}
 use Rattle.mcbp_dcp.specs.Messages.{read_of}
 use Rattle.mcbp_dcp.specs.declared.message.DcpFault.{DcpFault}
 use Rattle.mcbp_dcp.specs.declared.message.DcpMsg.TheVariants as msg
-use Rattle.transcript_law.specs.Chronicles.{after_calls, calls_of_append}
-use Rattle.transcript_law.proofs.invariant.Agreement.{AgreesIn, Busy, EndsStand, IsAcknowledgement, LinkAgrees, UpIs, Wants, idle, vb_of}
-use Rattle.transcript_law.proofs.{invariant.Carried.{talk_same, told_of_same}, invariant.Carrying.{Relinked}, invariant.LinkRows.{put_is_found, put_twice}, invariant.OneLink.{carries_link, mine}, lines.Calm.{AnyAsk, state_always}, links.Acknowledging.{not_before}, links.Counting.{acks_left}}
-use Rattle.transcript_law.proofs.{links.Downing.{Asker, Going, Line, Reached, RolledAt, Stage, busy_at, end_of, found_now, lifted_at, link_now, now, so_far}, links.Firsts.{first_count}, links.Frames.{readable, spelled_more}, links.Onward.{Kept}, links.Taken.{as_step, over_taken}}
+use Rattle.transcript_law.specs.Chronicles.{after_calls, after_noted, calls_of_append}
+use Rattle.vb_events.specs.declared.event.Answer.TheVariants as line_answer
+use Rattle.transcript_law.proofs.invariant.Agreement.{AgreesIn, Busy, EndsStand, LinkAgrees, UpIs, Wants, answers_in, heir_answers, idle, vb_of}
+use Rattle.transcript_law.proofs.{invariant.Carried.{talk_same, told_of_same}, invariant.Carrying.{Relinked}, invariant.LinkRows.{put_is_found, put_twice}, invariant.OneLink.{carries_link, mine}, lines.Calm.{AnyAsk, state_always}, links.Acknowledging.{not_before}, links.Upgoing.{acks_left, heir_left, upward_acked}}
+use Rattle.transcript_law.proofs.{links.Downing.{Asker, Going, Line, OwnedAt, Phase, Reached, RolledAt, Stage, busy_at, end_of, found_now, lifted_at, link_now, now, so_far}, links.Firsts.{first_count}, links.Frames.{readable, spelled_more}, links.Onward.{Kept}, links.Taken.{as_step, over_taken}}
 use Rattle.dcp_consumer.specs.Counting.{bytes_acknowledged, counted_bytes, counted_len, is_stream_opcode}
 use Rattle.takeover.specs.declared.take_over.TakeStep.{TakeStep}
 use Rattle.dcp_consumer.specs.Machine.{frame_step, is_noop, is_streaming, message_step, passive_step, response_step, stepped as after_step, unstated_step}
@@ -218,16 +219,18 @@ module _ (link : PlainLink) (n : ℕ) (up : List ℕ) (wrote : up ≡ link.up ++
   abbrev frame : Frame
   frame = dcp_frame (DcpMsg.BufferAcknowledgement number) link.consumer.asked 0
 
-  module _ {fv : Wants} {kn leader : Member} {pv : Option Plain} {g : Option Granted} {point : Option ℕ} {asked said : List Frame} where
-    opaque_low : EndsStand fv kn pv leader g point link.server link.consumer asked said → link.consumer.asked < 2 ^ 32
+  module _ {fv : Wants} {kn leader : Member} {pv : Option Plain} {g : Option Granted} {stated : Option Role} {point : Option ℕ} {asked said : List Frame} where
+    opaque_low : EndsStand fv kn pv leader g stated point link.server link.consumer asked said → link.consumer.asked < 2 ^ 32
     opaque_low (EndsStand.IsAsking ask none x) = x.consumer.small
     opaque_low (EndsStand.IsRefusedYet none x) = x.consumer.small
-    opaque_low (EndsStand.IsStreaming x) = x.consumer.small
+    opaque_low (EndsStand.IsStreaming x said) = x.consumer.small
+    opaque_low (EndsStand.IsHeir x said) = x.small
 
-    stands_acked : EndsStand fv kn pv leader g point link.server link.consumer asked said → EndsStand fv kn pv leader g point link.server link.consumer (asked ++ frame ∷ []) said
+    stands_acked : EndsStand fv kn pv leader g stated point link.server link.consumer asked said → EndsStand fv kn pv leader g stated point link.server link.consumer (asked ++ frame ∷ []) said
     stands_acked (EndsStand.IsAsking ask none x) = let a : x.seen ≤ x.answered = x.not_more in let b : x.answered ≤ first_count link.consumer.dialed = x.some_left in absurd (not_before link.consumer granted x.seen (omega arith) x.consumer)
     stands_acked (EndsStand.IsRefusedYet none x) = absurd (not_before link.consumer granted x.seen x.not_more x.consumer)
-    stands_acked (EndsStand.IsStreaming x) = EndsStand.IsStreaming (acks_left x (asked ++ frame ∷ []) (All-push (IsAcknowledgement x.granted_is.wrote link.consumer.asked link.consumer.dialed.vb) asked frame x.acks (inr (number, refl, few))))
+    stands_acked (EndsStand.IsStreaming x told) = EndsStand.IsStreaming (acks_left x (asked ++ frame ∷ []) (upward_acked x.granted_is.wrote link.consumer.asked link.consumer.dialed.vb (answers_in link.consumer.asked x.serving.handing) asked x.serving.acks frame (inr (number, refl, few)))) told
+    stands_acked (EndsStand.IsHeir x told) = EndsStand.IsHeir (heir_left x (asked ++ frame ∷ []) (upward_acked x.granted_is.wrote link.consumer.asked link.consumer.dialed.vb (heir_answers link.consumer.asked x.answered) asked x.acks frame (inr (number, refl, few)))) told
 
   ack_readable : link.consumer.asked < 2 ^ 32 → Readable frame
   ack_readable small = readable (DcpMsg.BufferAcknowledgement number) link.consumer.asked 0 tt few small (omega arith) (omega arith)
@@ -247,7 +250,7 @@ module _ (link : PlainLink) (n : ℕ) (up : List ℕ) (wrote : up ≡ link.up ++
     follows = x.follows;
     acks = x.acks;
     dial = x.dial;
-    talk = talk_same refl (vbs (producer_node link) link.consumer.dialed.vb) refl refl refl (record {
+    talk = talk_same refl (vbs (producer_node link) link.consumer.dialed.vb) refl refl refl refl (record {
       asked = t.asked ++ frame ∷ [];
       said = t.said;
       stands = stands_acked t.stands;
@@ -277,7 +280,7 @@ module _ (line : Line) (frames : List Frame) (states : Kept) (at : Asker) (event
   wrote = bytes_acknowledged n (end_of line at None)
 
   abbrev at' : Asker
-  at' = record { out = at.out ++ wrote; waiting = at.waiting; asked = at.asked; acked = at.acked }
+  at' = record { out = at.out ++ wrote; waiting = at.waiting; asked = at.asked; acked = at.acked; taking = at.taking }
 
   joined : (link_now line at').up ≡ (link_now line at).up ++ wrote
   joined = sym (append_assoc link.up at.out wrote)
@@ -289,6 +292,8 @@ module _ (line : Line) (frames : List Frame) (states : Kept) (at : Asker) (event
       lawful = g.lawful;
       quiet = g.quiet;
       onward = g.onward;
+      takes = g.takes;
+      tells = g.tells;
       cluster = g.cluster;
       agrees = acked_agrees (link_now line at) n (link_now line at').up joined granted (busy_at line []) (now line states at) (now line states at') (after_lines r events) g.cluster g.agrees (found_now line states at)
           (record { powers = λ m. refl; vbs = λ m v. refl; shelves = λ m v. refl; uuids = refl; linked = sym (put_twice l w.links (link_now line at) (link_now line at') refl) });
@@ -307,6 +312,12 @@ module _ (line : Line) (frames : List Frame) (states : Kept) (at : Asker) (event
           rolls = x.rolls;
           dials = x.dials;
           none_taken = x.none_taken;
+          untold = x.untold;
+          took = x.took;
+          uncut = x.uncut;
+          beside = x.beside;
+          ending = x.ending;
+          level = x.level;
           came = (
             still,
             is_rolled,
@@ -320,9 +331,37 @@ module _ (line : Line) (frames : List Frame) (states : Kept) (at : Asker) (event
           );
         }
 
-    stage_counted : (rolled : Bool) → Stage line rolled [] states at None events → Stage line rolled [] states at' None events
-    stage_counted false g = (going_counted g.0, g.1)
-    stage_counted true (none, x) = (none, rolled_counted x)
+    owned_counted : OwnedAt line [] None states at events → OwnedAt line [] None states at' events
+    owned_counted x =
+        let there : PlainWorld = with_links (lifted_at line states) (row_put link_number l (link_now line at) w.links) in
+        let there' : PlainWorld = with_links (lifted_at line states) (row_put link_number l (link_now line at') w.links) in
+        let (still, owns, noted, c, agrees) = x.came in
+        record {
+          lawful = x.lawful;
+          quiet = x.quiet;
+          heir = x.heir;
+          pended = x.pended;
+          takes_over = x.takes_over;
+          uncut = x.uncut;
+          beside = x.beside;
+          ending = x.ending;
+          none_back = x.none_back;
+          dials = x.dials;
+          acked = x.acked;
+          came = (
+            still,
+            owns,
+            noted,
+            c,
+            acked_agrees (link_now line at) n (link_now line at').up joined granted (busy_at line []) there there' (after_noted (after_lines r events) link.consumer.dialed.node link.consumer.dialed.vb Role.Active line_answer.Ok) c agrees (put_is_found l w.links link (link_now line at) found refl)
+                (record { powers = λ m. refl; vbs = λ m v. refl; shelves = λ m v. refl; uuids = refl; linked = sym (put_twice l w.links (link_now line at) (link_now line at') refl) }),
+          );
+        }
+
+    stage_counted : (phase : Phase) → Stage line phase [] states at None events → Stage line phase [] states at' None events
+    stage_counted Phase.Moving g = (going_counted g.0, g.1)
+    stage_counted Phase.Rolled (none, x) = (none, rolled_counted x)
+    stage_counted Phase.Owned x = owned_counted x
 
 -- a consumer that is not over waits, or has its stream
 has_stream : (h : Waiting) → is_asking h ≡ false → over_why h ≡ None → is_streaming h ≡ true
@@ -347,17 +386,17 @@ bytes_reached line frames came x counts = subst (λ (y : Kept × DialResult). Re
     n : ℕ
     n = counted_bytes frames
 
-    by : (over : Option EndReason) → Stage line x.rolled [] x.states x.at over x.events → Counts n (so_far line x.at over x.events) → Reached line [] (x.states, bytes_counted frames (so_far line x.at over x.events))
-    by (Some why) stage counts = record { states = x.states; at = x.at; over = Some why; events = x.events; same = refl; rolled = x.rolled; stage = stage }
+    by : (over : Option EndReason) → Stage line x.phase [] x.states x.at over x.events → Counts n (so_far line x.at over x.events) → Reached line [] (x.states, bytes_counted frames (so_far line x.at over x.events))
+    by (Some why) stage counts = record { states = x.states; at = x.at; over = Some why; events = x.events; same = refl; phase = x.phase; stage = stage }
     by None stage counts = whether (is_some (over_why x.at.waiting) || line.link.consumer.dialed.buffer == 0 || n == 0) refl
       where
         s : DialResult
         s = so_far line x.at None x.events
 
         whether : (b : Bool) → (is_some (over_why x.at.waiting) || line.link.consumer.dialed.buffer == 0 || n == 0) ≡ b → Reached line [] (x.states, if b then s else record s { out = s.out ++ bytes_acknowledged n s.dial.consumer })
-        whether true e = record { states = x.states; at = x.at; over = None; events = x.events; same = refl; rolled = x.rolled; stage = stage }
+        whether true e = record { states = x.states; at = x.at; over = None; events = x.events; same = refl; phase = x.phase; stage = stage }
         whether false e =
             let (still, some) = parts_of (is_some (over_why x.at.waiting)) (line.link.consumer.dialed.buffer == 0) (n == 0) e in
             let past : is_asking x.at.waiting ≡ false = false_from_ne_true (is_asking x.at.waiting) (λ asks. eqb-false n 0 some (counts asks)) in
             let granted : is_streaming x.at.waiting ≡ true = has_stream x.at.waiting past (no_why (over_why x.at.waiting) still) in
-            record { states = x.states; at = at' line frames x.states x.at x.events; over = None; events = x.events; same = refl; rolled = x.rolled; stage = stage_counted line frames x.states x.at x.events granted x.rolled stage }
+            record { states = x.states; at = at' line frames x.states x.at x.events; over = None; events = x.events; same = refl; phase = x.phase; stage = stage_counted line frames x.states x.at x.events granted x.phase stage }

@@ -1,54 +1,54 @@
 -- the line `down` while its frames are taken one after another
-use Rattle.std.specs.Prelude.{◌≡◌, ◌<◌, ◌≤◌, ◌∷◌, ◌++◌, ◌==◌, if◌then◌else◌}
-use Rattle.transcript_law.specs.Undone.{is_taking}
+use Rattle.std.specs.Prelude.{◌≡◌, ◌≤◌, ◌∷◌, ◌++◌, ◌==◌, if◌then◌else◌}
+use Rattle.transcript_law.specs.Undone.{AllAcknowledged, is_taking}
 use Rattle.dcp_consumer.specs.Machine.{is_streaming}
 use Rattle.durability.specs.Pending.{due}
 use Rattle.vb_calls.specs.Durable.{pending_prepares}
 use Rattle.transcript_law.proofs.Words.{fork_of}
-use Rattle.transcript_law.proofs.Words.{ℕ, Bool, true, false, suc, List, [], append-nil, drop, drop-append-le, take, refl, ap, sym, ◌∙◌, subst, arith, inl, inr, ⊎_elim, Option, Some, None}
-use Rattle.transcript_law.proofs.Words.{All, All-tail, eq-eqb, eqb-true, Frame, Readable, AskAnswer, StreamAsk, Event, EndReason, Cluster, Move, happens, SoundCluster, Plain, shelf_in}
-use Rattle.transcript_law.proofs.Words.{Ended, row_at, row_put, row_out, with_vb_at, after_job, PlainConsumer, DialResult, frame_taken, roll_back, PlainLink, link_number, PlainWorld, with_node_at, with_links}
-use Rattle.transcript_law.proofs.{Words.{vb_in, Chronicle, after_end, after_line, after_lines, LawfulLine, LawfulFrom, StaysSound, unlinked}, invariant.Agreement.{DiskIsIf, shelf_of, EndsStand, wants_of, vb_of, answer_frame, spoken}}
-use Rattle.transcript_law.proofs.{invariant.Agreement.{IsRefused, PointAgrees, DownAgrees, ServerIs, ConsumerIs, Asking, RefusedYet, VbAgrees, LinkAgrees, Busy, idle, top, AgreesIn, consumer_seat, Wants}, invariant.Seats.{seat}}
+use Rattle.transcript_law.proofs.Words.{ℕ, Bool, true, false, List, [], drop, refl, ap, sym, ◌∙◌, subst, inl, inr, ⊎_elim, Option, Some, None}
+use Rattle.transcript_law.proofs.Words.{All, All-tail, eq-eqb, eqb-true, frames_in, left_of, Frame, Readable, Event, EndReason, Cluster, Move, happens, SoundCluster, Plain, Role, is_follower, shelf_in}
+use Rattle.transcript_law.proofs.Words.{Ended, row_at, row_put, row_out, with_vb_at, after_job, PlainConsumer, DialResult, frame_taken, PlainLink, link_number, PlainWorld, with_node_at, with_links}
+use Rattle.transcript_law.proofs.{Words.{vb_in, Chronicle, after_end, after_line, after_lines, LawfulLine, LawfulFrom, StaysSound, unlinked}, invariant.Agreement.{DiskIsIf, shelf_of, EndsStand, wants_of, vb_of, spoken}}
+use Rattle.transcript_law.proofs.{invariant.Agreement.{DownAgrees, VbAgrees, LinkAgrees, Busy, idle, top, AgreesIn, consumer_seat}, invariant.Seats.{seat}}
 use Rattle.transcript_law.proofs.{invariant.Carrying.{ToldOf, TakenOf, MemberChanged, BecameOver}, links.Cutting.{IsClosable, closable, unlinking}, invariant.LinkRows.{found_is_link, put_is_found, put_twice, put_out}, invariant.OneLink.{carries_link}}
-use Rattle.transcript_law.proofs.{invariant.OneLink.{carries_over, carries_consumer}, lines.Lines.{IsQuiet, AreQuiet, after_more, lawful_more, quiet_more}, links.Taken.{first_taken, refused_taken, rolled_taken}, invariant.Carried.{told_of_same}}
+use Rattle.transcript_law.proofs.{invariant.OneLink.{carries_over, carries_consumer}, lines.Lines.{IsQuiet, AreQuiet, after_more, lawful_more, quiet_more}, invariant.Carried.{told_of_same}}
 use Rattle.transcript_law.proofs.invariant.Carried.{stream_end_lines, busy_one, one_here, one_but, one_idle}
 use Rattle.{dcp_consumer.specs.Machine.{answered, over_why}, dcp_consumer.specs.declared.handshake.Dialed.{Dialed}, dcp_consumer.specs.declared.handshake.Handshake.{Handshake}}
-use Rattle.transcript_law.proofs.links.Firsts.{Next, behind_first, first_answers, first_count, next_answer, untaken, waits_after}
-use Rattle.transcript_law.proofs.links.Requests.{answers_count, few_first, waits_asking, waits_next}
+use Rattle.transcript_law.proofs.links.Firsts.{first_answers}
 use Rattle.{disk_journals.specs.Arms.{arm_over, fuse_at, under}, node_core.specs.Dials.{is_broken}, node_world.specs.Arms.{fired_by, lifted}, node_world.specs.Worlds.{arm_in}, node_world.specs.declared.arm.Fired.{Fired}, std.specs.List.{list_any}, vb_calls.specs.Shelves.{Shelf, Shelves}}
 use Rattle.node_world.specs.declared.arm.Fired.TheVariants as fired
 use Rattle.transcript_law.specs.LineAnswers.{FailsIn, IsNoted, StopsIn, rollbacks_in_lines}
 use Rattle.vb_disk.specs.declared.fuse.Fuse.{Fuse}
 use Rattle.vb_disk.specs.declared.fuse.Fuse.TheVariants.{Off}
-use Rattle.{transcript_law.specs.Chronicles.{DiskKnown, after_append, after_calls, appending, calls_of_append, is_rollback, rollback_of}, vb_events.specs.declared.event.Answer.{Answer}, vb_types.specs.declared.journal.Record.{Record}}
+use Rattle.{transcript_law.specs.Chronicles.{DiskKnown, after_append, after_calls, after_noted, appending, calls_of_append, heir_in, is_rise, is_rollback, rollback_of}, vb_events.specs.declared.event.Answer.{Answer}, vb_types.specs.declared.journal.Record.{Record}}
 use Rattle.vb_events.specs.declared.event.Answer.TheVariants as answer
 use Rattle.vb_events.specs.declared.event.Cause.TheVariants as cause
 use Rattle.transcript_law.proofs.{disks.ArmedLines.{ArmedCame}, invariant.Agreement.{Agrees, RestsIn}, invariant.Carrying.{Changed, SamePowers}, disks.Disks.{beside_in}, verbs.NodeLines.{shelves_again, shelves_there}, invariant.OneLink.{consumer_rests, put_ends}}
 use Rattle.transcript_law.proofs.links.Onward.{AreOnward, IsOnward, Kept, onward_more, onward_same, over_apart, over_here, unarmed}
-use Rattle.{node_world.specs.Nodes.{PlainNode, with_kept}, vb_events.specs.declared.event.EndReason.TheVariants.{Disk, Refused}, vb_events.specs.declared.event.StreamName.TheVariants.{Link}}
-use Rattle.vb_types.specs.declared.stream.AskAnswer.TheVariants as ask_answer
+use Rattle.{node_world.specs.Nodes.{PlainNode, with_kept}, vb_events.specs.declared.event.EndReason.TheVariants.{Disk}, vb_events.specs.declared.event.StreamName.TheVariants.{Link}}
+use Rattle.takeover.specs.{declared.{take_over.TakeOver.{TakeOver}, take_over.TakeStep.TheVariants.{Own, Pend}}}
+use Rattle.transcript_law.proofs.{invariant.Noted.{FreeFor}, links.Takes.{NoneTaken, TakesOn, OwnsIn, TellsIn, Took, is_own_end, own_calm, owns_unturned, takes_more}}
+use Rattle.mcbp_dcp.specs.declared.message.DcpMsg.TheVariants.{StreamEnd}
+use Rattle.transcript_law.{proofs.{Words.{Granted, dcp_frame}, balance.Levels.{Has}, invariant.Agreement.{end_reason}, verbs.Untaken.{is_beside}}, specs.Tellings.{are_all}}
+use Rattle.transcript_law.specs.TakeoverNotes.{is_role_of}
 use Rattle.dcp_consumer.specs.declared.handshake.Handshake.TheVariants as waiting
 
 -- all answers to the requests of a consumer, of which `last` is the stream's
 abbrev pub all_answers : Dialed → Frame → List Frame
 all_answers d last = first_answers d ++ last ∷ []
 
--- the answers and the refusal behind them, written as all answers
-pub refused_all : (d : Dialed) (last : Frame) (seen : ℕ) → seen ≤ first_count d → drop seen (first_answers d) ++ last ∷ [] ≡ drop seen (all_answers d last) ++ []
-refused_all d last seen few = sym (append-nil (drop seen (all_answers d last)) ∙ drop-append-le seen (first_answers d) (last ∷ []) (omega (arith, answers_count d)))
-
 -- the consumer's end in the course of a line, but for what came and for whether the link is over: what it wrote, which answer it waits for, the opaque of its last
--- request for a stream, and what it acknowledged last
+-- request for a stream, what it acknowledged last, and which state it was told last
 pub record Asker : Type 0 where
   pub out : List ℕ
   pub waiting : Handshake
   pub asked : ℕ
   pub acked : ℕ
+  pub taking : TakeOver
 
 -- the same, waiting for that
 abbrev pub waits_for : Asker → Handshake → Asker
-waits_for at h = record { out = at.out; waiting = h; asked = at.asked; acked = at.acked }
+waits_for at h = record { out = at.out; waiting = h; asked = at.asked; acked = at.acked; taking = at.taking }
 
 -- after one more answer, by the buffer of the link
 abbrev pub past : ℕ → Asker → Asker
@@ -70,6 +70,12 @@ FiredIn fired.No closed f = closed ≡ true
 FiredIn fired.Failed closed f = (closed ≡ false) × FailsIn calls_of_append f
 FiredIn fired.Stopped closed f = (closed ≡ false) × StopsIn calls_of_append f
 
+-- how far a line is: nothing was written down, a rollback was begun, or the vBucket took its branch over
+pub data Phase : Type 0 where
+  Moving : Phase
+  Rolled : Phase
+  Owned : Phase
+
 -- a line `down` for a link: so many bytes are moved, and these are left in the reader
 pub record Line : Type 0 where
   pub w : PlainWorld
@@ -78,6 +84,7 @@ pub record Line : Type 0 where
   pub node : PlainNode
   pub moved : ℕ
   pub left : List ℕ
+  pub all : List Frame
   pub found : row_at link_number (link_number link) w.links ≡ Some link
 
 -- the same with this vBucket at v, and these journals
@@ -95,7 +102,7 @@ answered_streams buffer other e = cc
 
 module _ (line : Line) where
   -- the vBucket v of the node n is fed by the link l, and is the member k
-  open line use {w, r, link, node, moved, left, found}
+  open line use {w, r, link, node, moved, left, all, found}
   open line.link.consumer.dialed use {node as n, vb as v, link as l}
 
   abbrev k : ℕ
@@ -103,7 +110,7 @@ module _ (line : Line) where
 
   -- the consumer's end in the course of the line
   abbrev pub end_of : Asker → Option EndReason → PlainConsumer
-  end_of at over = record { dialed = link.consumer.dialed; handshake = waiting_unless over at.waiting; asked = at.asked; acked = at.acked; taking = link.consumer.taking }
+  end_of at over = record { dialed = link.consumer.dialed; handshake = waiting_unless over at.waiting; asked = at.asked; acked = at.acked; taking = at.taking }
 
   -- the dial then, and what was told
   abbrev pub so_far : Asker → Option EndReason → List Event → DialResult
@@ -137,6 +144,8 @@ module _ (line : Line) where
     pub lawful : LawfulFrom r events
     pub quiet : AreQuiet events
     pub onward : Onward states events
+    pub takes : TakesOn r link.consumer.dialed link.consumer.taking at.taking events
+    pub tells : TellsIn r link.consumer.dialed at.taking events
     pub cluster : Cluster
     pub agrees : AgreesIn (busy_at busy) (now states at) (after_lines r events) cluster
 
@@ -145,11 +154,31 @@ module _ (line : Line) where
   Met states at events =
       list_any is_taking events ≡ true → (is_streaming at.waiting ≡ true) × ((fv : Plain) → vb_of (now states at) n v ≡ Some fv → due (pending_prepares fv) (fork_of fv.position) fv.saved ≤ at.acked)
 
+  -- the end of the link's stream came, of this reason
+  pub record EndCame (turned : Bool) (events : List Event) : Type 0 where
+    pub opaque : ℕ
+    pub at_vb : ℕ
+    pub frame : Has (dcp_frame (StreamEnd (end_reason turned)) opaque at_vb) all
+    pub stream : Granted
+    pub told : (after_lines r events).stream_of (Link l) v ≡ Some stream
+    pub over : stream.over ≡ true
+
+  -- where the link is over for that
+  abbrev pub EndsSo : EndReason → List Event → Type 0
+  EndsSo EndReason.Done events = EndCame false events
+  EndsSo EndReason.State events = EndCame true events
+  EndsSo other events = Unit {0}
+
   pub record Gone (why : EndReason) (states : Kept) (events : List Event) : Type 0 where
     pub lawful : LawfulFrom r events
     pub quiet : AreQuiet events
     pub onward : Onward states events
     pub not_disk : is_broken (Some why) ≡ false
+    pub own_end : is_own_end why ≡ true
+    pub ending : EndsSo why events
+    pub told : TakeOver
+    pub tells : TellsIn r link.consumer.dialed told events
+    pub unturned : link.consumer.taking.last ≡ Some Own → list_any (is_role_of n v) events ≡ false
     pub cluster : Cluster
     pub agrees : AgreesIn idle (gone states) (after_end (after_lines r events) l) cluster
 
@@ -173,12 +202,43 @@ module _ (line : Line) where
     pub rolls : rollback_of r (r.dial_of l) (r.point_of l) ≡ Some (n, (v, what))
     pub dials : (after_lines r events).dial_of ≡ r.dial_of
     pub none_taken : list_any is_taking events ≡ false
+    pub untold : NoneTaken link.consumer.dialed link.consumer.taking at.taking events
+    pub took : Took link.consumer.dialed events
+    pub uncut : over ≡ Some EndReason.Cut → ⊥
+    pub beside : are_all is_beside events ≡ true
+    pub ending : (why : EndReason) → over ≡ Some why → EndsSo why events
+    pub level : list_any is_rise events ≡ false
     pub came : RolledCame what over states at events
 
-  abbrev pub Stage : Bool → List Frame → Kept → Asker → Option EndReason → List Event → Type 0
-  Stage false busy states at None events = Going busy states at events × Met states at events
-  Stage false busy states at (Some why) events = Gone why states events
-  Stage true busy states at over events = (spoken busy ≡ []) × RolledAt over states at events
+  -- what a line comes to by which the vBucket took its branch over: its link is open, or over, or over as its role could not be written down
+  abbrev pub OwnedCame : List Frame → Option EndReason → Kept → Asker → List Event → Type 0
+  OwnedCame busy None states at events = (over_why at.waiting ≡ None) × (at.taking ≡ record { last = Some Own }) × IsNoted (r.disk_at n v).closed node.arm.fuse answer.Ok
+      × (c : Cluster) × AgreesIn (busy_at busy) (with_links (lifted_at states) (row_put link_number l (link_now at) w.links)) (after_noted (after_lines r events) n v Role.Active answer.Ok) c
+  OwnedCame busy (Some Disk) states at events =
+      let left : PlainWorld = unlinked link (lifted_at states) in let how : Fired = fired_by node.arm.fuse (arm_in (left.nodes n)).fuse in
+      ArmedCame n (λ said told. after_noted told n v Role.Active said) how (after_lines r events) left (broken_answer how) × FiredIn how (r.disk_at n v).closed node.arm.fuse
+  OwnedCame busy (Some why) states at events = IsNoted (r.disk_at n v).closed node.arm.fuse answer.Ok × Agrees (unlinked link (lifted_at states)) (after_noted (after_end (after_lines r events) l) n v Role.Active answer.Ok)
+
+  -- the lines tell of it
+  pub record OwnedAt (busy : List Frame) (over : Option EndReason) (states : Kept) (at : Asker) (events : List Event) : Type 0 where
+    pub lawful : LawfulFrom r events
+    pub quiet : AreQuiet events
+    pub heir : heir_in events ≡ Some (n, v)
+    pub pended : link.consumer.taking.last ≡ Some Pend
+    pub takes_over : OwnsIn r link.consumer.dialed events
+    pub uncut : over ≡ Some EndReason.Cut → ⊥
+    pub beside : are_all is_beside events ≡ true
+    pub ending : (why : EndReason) → over ≡ Some why → EndsSo why events
+    pub none_back : list_any is_rollback events ≡ false
+    pub dials : (after_lines r events).dial_of ≡ r.dial_of
+    pub acked : list_any is_taking events ≡ true → AllAcknowledged (after_lines r events) l
+    pub came : OwnedCame busy over states at events
+
+  abbrev pub Stage : Phase → List Frame → Kept → Asker → Option EndReason → List Event → Type 0
+  Stage Phase.Moving busy states at None events = Going busy states at events × Met states at events
+  Stage Phase.Moving busy states at (Some why) events = Gone why states events
+  Stage Phase.Rolled busy states at over events = (spoken busy ≡ []) × RolledAt over states at events
+  Stage Phase.Owned busy states at over events = OwnedAt busy over states at events
 
   pub record Reached (busy : List Frame) (came : Kept × DialResult) : Type 0 where
     pub states : Kept
@@ -186,8 +246,8 @@ module _ (line : Line) where
     pub over : Option EndReason
     pub events : List Event
     pub same : came ≡ (states, so_far at over events)
-    pub rolled : Bool
-    pub stage : Stage rolled busy states at over events
+    pub phase : Phase
+    pub stage : Stage phase busy states at over events
 
   pub found_now : (states : Kept) (at : Asker) → row_at link_number l (now states at).links ≡ Some (link_now at)
   found_now states at = put_is_found l w.links link (link_now at) found refl
@@ -207,7 +267,7 @@ module _ (line : Line) where
   abbrev pub StandsWith : (busy : List Frame) (states : Kept) (at : Asker) (events : List Event) → Going busy states at events → Asker → List Frame → Type 0
   StandsWith busy states at events g at' taken =
       let m : LinkAgrees (now states at) (after_lines r events) g.cluster (link_now at) [] busy = linked busy states at events g in
-      EndsStand (wants_of m.follower) (g.cluster.nodes k) (vb_of (now states at) link.server.desk.node v) (g.cluster.nodes (seat link.server.desk.node v)) ((after_lines r events).stream_of (Link l) v) ((after_lines r events).point_of l)
+      EndsStand (wants_of m.follower) (g.cluster.nodes k) (vb_of (now states at) link.server.desk.node v) (g.cluster.nodes (seat link.server.desk.node v)) ((after_lines r events).stream_of (Link l) v) ((after_lines r events).stated_of l) ((after_lines r events).point_of l)
       link.server (end_of at' None) m.talk.asked taken
 
   -- the same where these are to come, of which it drops some
@@ -225,12 +285,14 @@ module _ (line : Line) where
     over = None;
     events = events;
     same = ap (λ p. after_job p states.0 states.1) e;
-    rolled = false;
+    phase = Phase.Moving;
     stage = (
       record {
         lawful = g.lawful;
         quiet = g.quiet;
         onward = g.onward;
+        takes = g.takes;
+        tells = g.tells;
         cluster = g.cluster;
         agrees = carries_link (busy_at (f ∷ rest)) (busy_at rest) (now states at) (now states at') (after_lines r events) (after_lines r events) g.cluster l (link_now at) (link_now at')
             g.agrees (found_now states at) (record { dialed = refl; desk = refl })
@@ -280,20 +342,25 @@ module _ (line : Line) where
       (left_out states states' at vbs (same_shelves states' states shelves) (unlinking stays (there states') link can)) ends
       (λ x ne. sym (one_idle l ([], busy) x ne))
 
-  pub ended : (stays : StaysSound) (f : Frame) (rest : List Frame) (states states' : Kept) (at at' : Asker) (events : List Event) (why : EndReason) (came : Kept × DialResult) (g : Going (f ∷ rest) states at events) → is_broken (Some why) ≡ false
+  pub ended : (stays : StaysSound) (f : Frame) (rest : List Frame) (states states' : Kept) (at at' : Asker) (events : List Event) (why : EndReason) (came : Kept × DialResult) (g : Going (f ∷ rest) states at events) → is_own_end why ≡ true → EndsSo why events
       → came ≡ (states', so_far at' (Some why) events) → ((m q : ℕ) → vb_of (there states') m q ≡ vb_of (now states at) m q) → states'.1 ≡ states.1 → Reached rest came
-  ended stays f rest states states' at at' events why came g other e vbs shelves = record {
+  ended stays f rest states states' at at' events why came g other ending e vbs shelves = record {
     states = states';
     at = at';
     over = Some why;
     events = events;
     same = e;
-    rolled = false;
+    phase = Phase.Moving;
     stage = record {
       lawful = g.lawful;
       quiet = g.quiet;
       onward = record { arm = ap (λ s. fuse_at s v) shelves ∙ g.onward.arm; lines = g.onward.lines };
-      not_disk = other;
+      not_disk = own_calm why other;
+      own_end = other;
+      ending = ending;
+      told = at.taking;
+      tells = g.tells;
+      unturned = owns_unturned r link.consumer.dialed link.consumer.taking at.taking events g.takes;
       cluster = happens g.cluster (Move.Cut k);
       agrees = ended_agrees stays (f ∷ rest) states states' at events (after_end (after_lines r events) l) g vbs shelves (stream_end_lines (after_lines r events) l);
     };
@@ -328,13 +395,13 @@ module _ (line : Line) where
   pub shelf_now : (states : Kept) (shelf : Shelf) → states.1 v ≡ Some shelf → shelf_of (there states) n v ≡ Some (under Off shelf)
   shelf_now states shelf has = ap (λ b. shelf_in (if b then Some (with_kept node (unarmed v states)) else w.nodes n) v) (eq-eqb n n refl) ∙ over_here states.1 v Off shelf has
 
-  -- the vBucket and its journal are others, of which one line tells
-  module _ (f : Frame) (rest : List Frame) (states : Kept) (shelves : Shelves) (at at' : Asker) (events : List Event) (fv fv' : Plain) (told : Event) (c' : Cluster) (g : Going (f ∷ rest) states at events)
-      (journals : (q : ℕ) → (q ≡ v → ⊥) → shelves q ≡ states.1 q) (known : vb_of (now states at) n v ≡ Some fv) (role : fv'.role ≡ fv.role) (streams : fv'.streams ≡ fv.streams)
-      (arms : (after_line (after_lines r events) told).arm_at ≡ (after_lines r events).arm_at) (clocks : (after_line (after_lines r events) told).clock_at ≡ (after_lines r events).clock_at) (stays : ((after_line (after_lines r events) told).disk_at n v).there ≡ ((after_lines r events).disk_at n v).there)
-      (taken : TakenOf l n v (after_lines r events) (after_line (after_lines r events) told)) (member : MemberChanged k g.cluster c') (sound : SoundCluster top c')
-      (vb : VbAgrees (after_line (after_lines r events) told) n v (c'.nodes k) fv')
-      (disk : DiskIsIf ((after_line (after_lines r events) told).disk_at n v) (c'.disks k) (shelf_of (now (put_kept states shelves v fv') at') n v) (Some fv')) where
+  -- the vBucket and its journal are others, of which these lines tell
+  module _ (f : Frame) (rest : List Frame) (states : Kept) (shelves : Shelves) (at at' : Asker) (events : List Event) (fv fv' : Plain) (told : List Event) (c' : Cluster) (g : Going (f ∷ rest) states at events)
+      (journals : (q : ℕ) → (q ≡ v → ⊥) → shelves q ≡ states.1 q) (known : vb_of (now states at) n v ≡ Some fv) (follows : is_follower fv.role ≡ true) (follows' : is_follower fv'.role ≡ true)
+      (arms : (after_lines (after_lines r events) told).arm_at ≡ (after_lines r events).arm_at) (clocks : (after_lines (after_lines r events) told).clock_at ≡ (after_lines r events).clock_at) (stays : ((after_lines (after_lines r events) told).disk_at n v).there ≡ ((after_lines r events).disk_at n v).there)
+      (taken : TakenOf l n v (after_lines r events) (after_lines (after_lines r events) told)) (member : MemberChanged k g.cluster c') (sound : SoundCluster top c')
+      (vb : VbAgrees (after_lines (after_lines r events) told) n v (c'.nodes k) fv')
+      (disk : DiskIsIf ((after_lines (after_lines r events) told).disk_at n v) (c'.disks k) (shelf_of (now (put_kept states shelves v fv') at') n v) (Some fv')) where
     abbrev before : Chronicle
     before = after_lines r events
 
@@ -351,124 +418,52 @@ module _ (line : Line) where
       linked = sym (put_twice l w.links (link_now at) (link_now at') refl);
     }
 
-    rests : RestsIn (now states' at') (after_line before told) c'
-    rests = consumer_rests (busy_at (f ∷ rest)) (now states at) (now states' at') before (after_line before told) g.cluster c' l (link_now at) fv fv' (row_put link_number l (link_now at') (now states at).links)
-        g.agrees (found_now states at) known role streams changed taken member vb disk (λ m i. record { arm = arms i m; clock = clocks i m }) stays
+    rests : RestsIn (now states' at') (after_lines before told) c'
+    rests = consumer_rests (busy_at (f ∷ rest)) (now states at) (now states' at') before (after_lines before told) g.cluster c' l (link_now at) fv fv' (row_put link_number l (link_now at') (now states at).links)
+        g.agrees (found_now states at) known follows follows' changed taken member vb disk (λ m i. record { arm = arms i m; clock = clocks i m }) stays
         (put_ends (busy_at (f ∷ rest)) (now states at) (now states' at') before g.cluster l (link_now at) (link_now at') g.agrees (found_now states at) (record { dialed = refl; desk = refl }) changed.powers changed.linked)
 
     -- with these frames to come
-    pub moved_agrees : (left : List Frame) → LinkAgrees (now states' at') (after_line before told) c' (link_now at') [] left → AgreesIn (busy_at left) (now states' at') (after_lines r (events ++ told ∷ [])) c'
-    moved_agrees left a = subst (λ x. AgreesIn (busy_at left) (now states' at') x c') (sym (after_more r events (told ∷ [])))
-        (carries_consumer (busy_at (f ∷ rest)) (busy_at left) (now states at) (now states' at') before (after_line before told) g.cluster c' l (link_now at) (link_now at') fv fv'
-        g.agrees (found_now states at) (record { dialed = refl; desk = refl }) known role streams changed (λ q id has. has) taken member sound (one_but l ([], f ∷ rest) ([], left)) vb disk rests
-        (subst (λ b. LinkAgrees (now states' at') (after_line before told) c' (link_now at') b.0 b.1) (sym (one_here l ([], left))) a))
+    pub moved_agrees : (left : List Frame) → LinkAgrees (now states' at') (after_lines before told) c' (link_now at') [] left → AgreesIn (busy_at left) (now states' at') (after_lines r (events ++ told)) c'
+    moved_agrees left a = subst (λ x. AgreesIn (busy_at left) (now states' at') x c') (sym (after_more r events told))
+        (carries_consumer (busy_at (f ∷ rest)) (busy_at left) (now states at) (now states' at') before (after_lines before told) g.cluster c' l (link_now at) (link_now at') fv fv'
+        g.agrees (found_now states at) (record { dialed = refl; desk = refl }) known follows follows' changed (λ q id has. has) taken member sound (one_but l ([], f ∷ rest) ([], left)) vb disk rests
+        (subst (λ b. LinkAgrees (now states' at') (after_lines before told) c' (link_now at') b.0 b.1) (sym (one_here l ([], left))) a))
 
   -- the vBucket made a call, of which one line tells
   pub moved_on : (f : Frame) (rest : List Frame) (states : Kept) (at at' : Asker) (events : List Event) (fv fv' : Plain) (told : Event) (c' : Cluster)
-      (g : Going (f ∷ rest) states at events) → vb_of (now states at) n v ≡ Some fv → fv'.role ≡ fv.role → fv'.streams ≡ fv.streams
+      (g : Going (f ∷ rest) states at events) → is_role_of n v told ≡ false → Took link.consumer.dialed (events ++ told ∷ []) → at'.taking ≡ at.taking → vb_of (now states at) n v ≡ Some fv → is_follower fv.role ≡ true → is_follower fv'.role ≡ true
       → IsOnward told → IsQuiet told → LawfulLine (after_lines r events) told []
       → TakenOf l n v (after_lines r events) (after_line (after_lines r events) told) → MemberChanged k g.cluster c' → SoundCluster top c'
       → VbAgrees (after_line (after_lines r events) told) n v (c'.nodes k) fv'
       → DiskIsIf ((after_line (after_lines r events) told).disk_at n v) (c'.disks k) (shelf_of (now (put_vb states v fv') at') n v) (Some fv')
       → LinkAgrees (now (put_vb states v fv') at') (after_line (after_lines r events) told) c' (link_now at') [] rest
       → Going rest (put_vb states v fv') at' (events ++ told ∷ [])
-  moved_on f rest states at at' events fv fv' told c' g known role streams onward quiet lawful taken member sound vb disk a =
+  moved_on f rest states at at' events fv fv' told c' g no_role took told_same known follows follows' onward quiet lawful taken member sound vb disk a =
       let same = onward_same (after_lines r events) told onward in
       record {
         lawful = lawful_more r events (told ∷ []) g.quiet g.lawful (lawful, tt);
         quiet = quiet_more events (told ∷ []) g.quiet (quiet, tt);
         onward = record { arm = g.onward.arm; lines = onward_more events told g.onward.lines onward };
+        takes = takes_more r link.consumer.dialed link.consumer.taking at.taking at'.taking events told no_role told_same g.takes;
+        tells = inl took;
         cluster = c';
-        agrees = moved_agrees f rest states states.1 at at' events fv fv' told c' g (λ q o. refl) known role streams same.arms same.clocks (ap (λ (t : ℕ → ℕ → DiskKnown). (t n v).there) same.disks) taken member sound vb disk rest a;
+        agrees = moved_agrees f rest states states.1 at at' events fv fv' (told ∷ []) c' g (λ q o. refl) known follows follows' same.arms same.clocks (ap (λ (t : ℕ → ℕ → DiskKnown). (t n v).there) same.disks) taken member sound vb disk rest a;
       }
 
-  -- the dial of the link
-  abbrev dialed : Dialed
-  dialed = link.consumer.dialed
-
-  -- one more answer was seen
-  pub counted_consumer : (at : Asker) (seen : ℕ) → seen < first_count dialed → ConsumerIs (end_of at None) seen → ConsumerIs (end_of (past dialed.buffer at) None) (suc seen)
-  counted_consumer at seen few x = record { waits = ap (answered dialed.buffer) x.waits ∙ waits_next dialed seen few; small = x.small }
-
-  -- what is waited for after the first answers
-  pub waits_last : (at : Asker) (seen : ℕ) → seen ≡ first_count dialed → ConsumerIs (end_of at None) seen → at.waiting ≡ waiting.Asking
-  waits_last at seen all x = x.waits ∙ ap (waits_after dialed) all ∙ waits_asking dialed
-
-  pub asking_next : (fv : Wants) (ask : StreamAsk) (f : Frame) (at : Asker) (events : List Event) (up down more : List Frame) → down ≡ f ∷ more → Asking fv ask link.server (end_of at None) up down
-      → (frame_taken f (so_far at None events) ≡ Ended (so_far (past dialed.buffer at) None events)) × Asking fv ask link.server (end_of (past dialed.buffer at) None) up more
-  asking_next fv ask f at events up down more e x =
-      let answers : List Frame = first_answers dialed in
-      let d : drop x.seen (take x.answered answers) ≡ f ∷ more = sym x.said_is ∙ e in
-      let i = untaken x.seen x.answered answers f more d in let below : x.seen < x.answered = i.0 in
-      let few : x.seen < first_count dialed = few_first dialed x.seen f i.1 i.2 in (
-        first_taken x.seen f i.1 (so_far at None events) i.2 x.consumer.waits,
-        record {
-          no_stream = x.no_stream;
-          fewer = x.fewer;
-          asking = record {
-            answered = x.answered;
-            seen = suc x.seen;
-            some_left = x.some_left;
-            not_more = omega arith;
-            server = x.server;
-            consumer = counted_consumer at x.seen few x.consumer;
-            asks = x.asks;
-            asked_is = x.asked_is;
-            said_is = sym (behind_first x.seen (take x.answered answers) f more d);
-          };
-        },
-      )
-
-  -- what becomes of a frame of a link that was refused or sent back: it is only counted, or it is that answer, and nothing is behind it
-  pub data RefusedNext (f : Frame) (at : Asker) (events : List Event) (point : Option ℕ) (up more : List Frame) : Type 0 where
-    IsCounted : frame_taken f (so_far at None events) ≡ Ended (so_far (past dialed.buffer at) None events) → RefusedYet point link.server (end_of (past dialed.buffer at) None) up more → RefusedNext f at events point up more
-    IsOver : frame_taken f (so_far at None events) ≡ Ended (so_far at (Some Refused) events) → RefusedNext f at events point up more
-    IsBack : (to : ℕ) → point ≡ Some to → frame_taken f (so_far at None events) ≡ roll_back to (so_far at None events) → at.waiting ≡ waiting.Asking
-        → ServerIs link.server dialed (first_count dialed) → link.server.streams ≡ [] → link.server.asked ≤ at.asked → up ≡ [] → more ≡ [] → RefusedNext f at events point up more
-
-  pub refused_next : (f : Frame) (at : Asker) (events : List Event) (point : Option ℕ) (up down more : List Frame) → down ≡ f ∷ more → RefusedYet point link.server (end_of at None) up down → RefusedNext f at events point up more
-  refused_next f at events point up down more d x = by (next_answer (first_answers dialed) (first_count dialed) last f [] more x.seen (answers_count dialed) (let y : x.seen ≤ first_count dialed = x.not_more in omega arith) (sym (refused_all dialed last x.seen x.not_more) ∙ sym x.said_is ∙ d))
-    where
-      last : Frame
-      last = answer_frame at.asked [] x.said
-
-      s : DialResult
-      s = so_far at None events
-
-      -- the answer itself
-      by_said : (said : AskAnswer) → IsRefused said → PointAgrees said point → x.seen ≡ first_count dialed → answer_frame at.asked [] said ≡ f → [] ≡ more → RefusedNext f at events point up more
-      by_said ask_answer.Go refused told all h e = absurd refused
-      by_said (ask_answer.Roll to) refused told all h e = RefusedNext.IsBack to told
-          (subst (λ y. frame_taken y s ≡ roll_back to s) h (rolled_taken to s refused (waits_last at x.seen all x.consumer)))
-          (waits_last at x.seen all x.consumer) x.server x.no_stream x.fewer x.asked_is (sym e)
-      by_said (ask_answer.Refuse code) refused told all h e = RefusedNext.IsOver (subst (λ y. frame_taken y s ≡ Ended (so_far at (Some Refused) events)) h
-          (refused_taken code s refused (waits_last at x.seen all x.consumer)))
-
-      by : Next (first_answers dialed) (first_count dialed) last f [] more x.seen → RefusedNext f at events point up more
-      by (Next.IsFirst others h e) =
-          let few : x.seen < first_count dialed = few_first dialed x.seen f others h in
-          RefusedNext.IsCounted (first_taken x.seen f others s h x.consumer.waits) (record {
-            no_stream = x.no_stream;
-            fewer = x.fewer;
-            refusal = record {
-              said = x.said;
-              refused = x.refused;
-              told = x.told;
-              seen = suc x.seen;
-              not_more = omega arith;
-              server = x.server;
-              consumer = counted_consumer at x.seen few x.consumer;
-              asked_is = x.asked_is;
-              said_is = sym (refused_all dialed last (suc x.seen) (omega arith) ∙ e);
-            };
-          })
-      by (Next.IsLast all h e) = by_said x.said x.refused x.told all h e
-      by (Next.IsBehind all e) = let y : x.seen ≤ first_count dialed = x.not_more in absurd (omega arith)
+-- what lines told of the link before the line: for what it was dialed, and that nobody writes on a branch of which active was stated; and what is left in the reader is less than a frame
+pub record Noticed (line : Line) : Type 0 where
+  pub dialed_for : (line.r.takeover_of line.link.consumer.dialed.link).dialed ≡ line.link.consumer.dialed.takeover
+  pub free : FreeFor line.r line.link
+  pub none_whole : frames_in line.left ≡ []
+  pub rest_left : left_of line.left ≡ line.left
 
 -- while the link is open, before its next frame is taken
 pub record Before (line : Line) : Type 0 where
   pub stays : StaysSound
+  pub noticed : Noticed line
   pub f : Frame
+  pub among : Has f line.all
   pub rest : List Frame
   pub states : Kept
   pub at : Asker

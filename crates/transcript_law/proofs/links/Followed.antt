@@ -2,12 +2,13 @@
 use Rattle.std.specs.Prelude.{◌≡◌, ◌<◌, ◌≤◌, ◌∷◌, ◌++◌, ◌⊎◌, ◌^◌, if◌then◌else◌}
 use Rattle.{branch_model.specs.Journals.{place_of}, cluster_model.specs.Clusters.{Disk, spanned}, vb_calls.specs.Shelves.{Shelf}, vb_calls.specs.Spans.{span_position}, vb_calls.specs.declared.span.Origin.{Origin}, transcript_law.specs.Chronicles.{DiskKnown}}
 use Rattle.transcript_law.proofs.{disks.Disks.{ShelfIs, grown_spots, parts_of, shelf_spanned}, invariant.Wholes.{Spanned}}
-use Rattle.transcript_law.proofs.Words.{ℕ, Bool, true, false, List, [], refl, ap, sym, ◌∙◌, subst, arith, inl, inr, ⊎_elim, Option, Some, None, nat_lt, cases_lt}
+use Rattle.transcript_law.proofs.Words.{ℕ, Bool, true, false, List, [], refl, ap, sym, ◌∙◌, subst, arith, inl, inr, ⊎_elim, Option, Some, None, is_some, nat_lt, cases_lt}
 use Rattle.transcript_law.proofs.Words.{nat_tests, All, All-append, All-nil, All-cons, Act, Change, Pend, Position, LogEntry, Role, upto, Rises, last_seq, IsOf, HasLast, hist, Shared, upto_down, in_filter}
 use Rattle.transcript_law.proofs.Words.{append_assoc, holds_fewer, holds_same, front, uuid_of, fork_of, Feed, Member, Cluster, above, member_reach, adopted, marked_by, received, start_cases, at_le, Received, Span, with_seal}
 use Rattle.transcript_law.proofs.Words.{with_change, span_of, last_at, Grown, DialResult, States, with_vb_at, call_at, Call, Prog, after, VbReply, VbCall, Plain, plain_step, is_active, quiet_reply, refusal_reply}
 use Rattle.transcript_law.proofs.{Words.{is_follower, is_answerable, marker_fits, marked_vb, is_next, with_received_change, Sound, StaysSound, Chronicle, held_more, with_at, known_history}, invariant.Tables.{at_here}}
 use Rattle.transcript_law.proofs.invariant.Agreement.{ActFits, BranchAgrees, ChangeFits, EntryFits, VbAgrees, WritesIf, all_rise, marker_start, no_counts, no_lefts, no_times, own_history, top}
+use Rattle.transcript_law.proofs.invariant.Holdings.{opened_as}
 use Rattle.transcript_law.proofs.invariant.Carried.{no_writer}
 use Rattle.transcript_law.proofs.invariant.Wholes.{WholeTo, from_is, joined_opens, not_inside, spanned_marked, spanned_received, whole_before, whole_sealed}
 use Rattle.{branch_model.proofs.Holding.{holds_received, holds_whole}, branch_model.proofs.Lists.{in_left}, branch_model.specs.Requests.{marked}, std.proofs.Math.Nat.{min-eq_left, min-eq_right}}
@@ -137,7 +138,7 @@ marked_agrees stays r n v m fv feed x more start a f fits e above =
         )) a.holds;
       };
       role = a.role;
-      opened = at_here r.open_at n v false;
+      opened = opened_as fv.role (with_at r.open_at n v false n v) false (at_here r.open_at n v false);
       writes = no_writes (ranged_told r n v (min start fv.position.at) x.0) n v m.br fv.role (no_writer fv.role f);
       counts = no_counts fv.role (r.counts_at n v) fv.others fv.acks (no_writer fv.role f);
       lefts = no_lefts fv.role (r.counts_at n v).risen fv.position.at fv.waiting (no_writer fv.role f);
@@ -260,7 +261,7 @@ module _ (stays : StaysSound) (r : Chronicle) (n v : ℕ) (m : Member) (fv : Pla
       holds = holds_received 0 (WholeTo fv.floor fv.spans p) (WholeTo fv.floor (with_change fv.spans joined alone) p') m.held (own_history r n v) c points_of_branch split a.holds;
     };
     role = a.role;
-    opened = at_here r.open_at n v true ∙ sym (joined_opens fv.spans joined alone);
+    opened = opened_as fv.role (with_at r.open_at n v true n v) (is_some (with_change fv.spans joined alone).current) (at_here r.open_at n v true ∙ sym (joined_opens fv.spans joined alone));
     writes = no_writes (record r { held = held_more r n v c; open_at = with_at r.open_at n v true }) n v m.br fv.role rests;
     counts = no_counts fv.role (r.counts_at n v) fv.others fv.acks rests;
     lefts = no_lefts fv.role (r.counts_at n v).risen c.seq fv.waiting rests;

@@ -105,26 +105,29 @@ none_writes r l u fed = (λ i. if is_branch (fed i) u then None else r.writer_of
 -- ---- a vBucket that takes its branch over: the move Rise, and the line of its role
 
 -- it may, by the lines: it is pending, it took all of its stream, by which its branch was given up, nobody writes on that, it is at the end of its snapshot and has all of the branch
-pub heir_lawful : (r : Chronicle) (n v : ℕ) (m : Member) (vb : Plain) (s : IsStated r n v Role.Active) → VbAgrees r n v m vb → vb.role ≡ Role.Pending → r.writer_of (stream_branch s.stream) ≡ None → vb.position.at ≡ vb.position.se → last_seq 0 (stream_history r s.stream) ≡ vb.position.at → LawfulRole r n v Role.Active
-heir_lawful r n v m vb s a pending free complete all = record { another = other; anew = λ e. inr heir; pending = λ e. cc }
+pub heir_is : (r : Chronicle) (n v : ℕ) (m : Member) (vb : Plain) (s : IsStated r n v Role.Active) → VbAgrees r n v m vb → vb.role ≡ Role.Pending → r.writer_of (stream_branch s.stream) ≡ None → vb.position.at ≡ vb.position.se → last_seq 0 (stream_history r s.stream) ≡ vb.position.at → IsHeir r n v
+heir_is r n v m vb s a pending free complete all = record {
+  pending = a.role ∙ ap (λ (x : Role). Some (Some x)) pending;
+  given = s;
+  free = free;
+  complete = λ ss se e. let z : ◌≡◌ {A = Option (ℕ × ℕ)} (Some (vb.position.ss, vb.position.se)) (Some (ss, se)) = sym a.snap ∙ e in let pair : ◌≡◌ {A = ℕ × ℕ} (vb.position.ss, vb.position.se) (ss, se) = cc in at ∙ complete ∙ ap (λ (p : ℕ × ℕ). p.1) pair;
+  whole = at ∙ sym all;
+}
   where
-    known : r.role_at n v ≡ Some (Some Role.Pending)
-    known = a.role ∙ ap (λ (x : Role). Some (Some x)) pending
-
-    other : r.role_at n v ≡ Some (Some Role.Active) → ⊥
-    other e = let z : ◌≡◌ {A = Option (Option Role)} (Some (Some Role.Pending)) (Some (Some Role.Active)) = sym known ∙ e in cc
-
     at : last_seq 0 (r.held n v) ≡ vb.position.at
     at = ap (last_seq 0) a.held ∙ a.high
 
-    heir : IsHeir r n v
-    heir = record {
-      pending = known;
-      given = s;
-      free = free;
-      complete = λ ss se e. let z : ◌≡◌ {A = Option (ℕ × ℕ)} (Some (vb.position.ss, vb.position.se)) (Some (ss, se)) = sym a.snap ∙ e in let pair : ◌≡◌ {A = ℕ × ℕ} (vb.position.ss, vb.position.se) (ss, se) = cc in at ∙ complete ∙ ap (λ (p : ℕ × ℕ). p.1) pair;
-      whole = at ∙ sym all;
-    }
+-- by the stream that it took
+pub heir_given : (r : Chronicle) (n v : ℕ) (m : Member) (vb : Plain) (s : IsStated r n v Role.Active) (a : VbAgrees r n v m vb) (pending : vb.role ≡ Role.Pending) (free : r.writer_of (stream_branch s.stream) ≡ None) (complete : vb.position.at ≡ vb.position.se) (all : last_seq 0 (stream_history r s.stream) ≡ vb.position.at)
+    → (heir_is r n v m vb s a pending free complete all).given.link ≡ s.link
+unfolding heir_is
+heir_given r n v m vb s a pending free complete all = refl
+
+pub heir_lawful : (r : Chronicle) (n v : ℕ) (m : Member) (vb : Plain) (s : IsStated r n v Role.Active) → VbAgrees r n v m vb → vb.role ≡ Role.Pending → r.writer_of (stream_branch s.stream) ≡ None → vb.position.at ≡ vb.position.se → last_seq 0 (stream_history r s.stream) ≡ vb.position.at → LawfulRole r n v Role.Active
+heir_lawful r n v m vb s a pending free complete all = record { another = other; anew = λ e. inr (heir_is r n v m vb s a pending free complete all); pending = λ e. cc }
+  where
+    other : r.role_at n v ≡ Some (Some Role.Active) → ⊥
+    other e = let z : ◌≡◌ {A = Option (Option Role)} (Some (Some Role.Pending)) (Some (Some Role.Active)) = sym (a.role ∙ ap (λ (x : Role). Some (Some x)) pending) ∙ e in cc
 
 -- a branch that was given up for a member ends where that has all of it
 pub given_ends : (c : Cluster) (k u n : ℕ) → SoundCluster top c → (g : HasRight u (c.nodes k).link) → g.0 ≡ n → c.tips u ≡ n

@@ -4,7 +4,7 @@ use Rattle.transcript_law.proofs.Words.{length-append, ℕ, true, false, refl, a
 use Rattle.transcript_law.proofs.Words.{stream_at, need_of, start_of, end_span, take_to, take_from, Sound, TakesSnapshots, Bool, cond, List, [], length, map, drop, ⊎_elim, append_assoc, append-nil}
 use Rattle.transcript_law.proofs.Words.{Option, None, is_some, not, All, eqb-true, ne_eqb, Frame, dcp_frame, Change, Position, StreamAsk, last_seq, effective_ss, effective_se, fork_of, Branch}
 use Rattle.transcript_law.proofs.Words.{hist, Feed, Member, flight_from, flight_end, member_reach, Flight, PlainStream, Begun, Granted, stream_branch, with_begun, item_of_change, IsWholeIf, IsMarker, PlainProducer}
-use Rattle.transcript_law.proofs.{Words.{PlainConsumer}, links.Sent.{fits_of, all_by_each, drop_whole, flight_frames_push, flight_end_push}, invariant.Agreement.{ChangeFits, BegunAgrees, Open, StreamAgrees, kept_stream, Streaming, top}}
+use Rattle.transcript_law.proofs.{Words.{PlainConsumer}, links.Sent.{fits_of, all_by_each, drop_whole, flight_frames_push, flight_end_push, sending_tail}, invariant.Agreement.{ChangeFits, BegunAgrees, GivenIn, Handing, Open, StreamAgrees, has_pended, is_sending, kept_stream, Streaming, tail_frames, top}}
 use Rattle.transcript_law.proofs.{invariant.Agreement.{coming_items, flight_marks, marker_start, items_frames, flight_frames, stream_frames, answer_frame, is_granted, Wants}, links.Firsts.{first_answers}, links.Comings.{marks_push, snapshot_comes}}
 use Rattle.transcript_law.proofs.invariant.Tables.{never}
 use Rattle.branch_model.proofs.Lists.{in_right, from_upto, last_in, rises_in, upto-append}
@@ -67,7 +67,7 @@ whole_if stream (Some b) begun l = record {
   front = sym (append-nil b.items ∙ begun.1 ∙ ap (map item_of_change) (take_all stream.next stream.items l));
 }
 
-module _ {o vb : ℕ} {g : Granted} {stream : PlainStream} {pv : Option Plain} {leader : Member} {feed : Feed} {kn : Member} {in_one : Bool} (si : StreamAgrees o vb g stream pv leader feed kn in_one) where
+module _ {o vb : ℕ} {g : Granted} {stream : PlainStream} {pv : Option Plain} {leader : Member} {feed : Feed} {kn : Member} {in_one : Bool} {h : Handing} (si : StreamAgrees o vb g stream pv leader feed kn in_one h) where
   -- a consumer of which a snapshot is on its way, or that is in one
   in_one_if : (b : Begun) → g.last ≡ Some b → feed.flight ≡ [] → in_one ≡ true
   in_one_if b e f = true_from_ne_false in_one (λ t. never (sym (ap is_some e) ∙ si.in_flight t f))
@@ -148,15 +148,28 @@ moved_vb pv id end = record pv { streams = map (moved_on id end) pv.streams }
 abbrev pub taken_stream : PlainStream → List Change → ℕ → PlainStream
 taken_stream stream items end = record stream { items = items; next = 0; marked = Some end }
 
+-- while a stream puts its snapshots, it does not matter up to where it did whether its vBucket was given up
+given_sending : (h : Handing) (given : Option ℕ) (place end : ℕ) → is_sending h ≡ true → GivenIn h given place → GivenIn h given end
+given_sending Handing.Unstated given place end e x = x
+given_sending Handing.Ceded given place end e x = x
+given_sending other given place end e x = cc
+
+pended_sends : (h : Handing) → has_pended h ≡ true → is_sending h ≡ false
+pended_sends Handing.Pended e = refl
+pended_sends Handing.Due e = refl
+pended_sends other e = cc
+
 -- what the lines and the producer tell of the stream, after its marker
-marked_stream_begun : {o vb : ℕ} {g : Granted} {stream : PlainStream} {pv : Option Plain} {leader : Member} {feed : Feed} {kn : Member} {in_one : Bool} (tree : List Branch) (items : List Change) (start end : ℕ) (x : Open stream.id g pv leader feed)
-    → StreamAgrees o vb g stream pv leader feed kn in_one → end ≤ top → flight_end (marker_start in_one kn.position) feed.flight ≡ start → length stream.items ≤ stream.next → All ChangeFits items → Covers items (hist tree (stream_branch g)) g.place end
-    → StreamAgrees o vb (with_begun tree start end g) (taken_stream stream items end) (Some (moved_vb x.producer stream.id end)) leader (record { u = feed.u; log = feed.log; flight = feed.flight ++ (end, items) ∷ []; given = feed.given }) (sent_member kn feed items end) in_one
-marked_stream_begun {g = g} {stream} {feed = feed} {kn} {in_one} tree items start end x s low starts whole fits covers =
+marked_stream_begun : {o vb : ℕ} {g : Granted} {stream : PlainStream} {pv : Option Plain} {leader : Member} {feed : Feed} {kn : Member} {in_one : Bool} {h : Handing} (tree : List Branch) (items : List Change) (start end : ℕ) (x : Open stream.id g pv leader feed h)
+    → StreamAgrees o vb g stream pv leader feed kn in_one h → is_sending h ≡ true → end ≤ top → flight_end (marker_start in_one kn.position) feed.flight ≡ start → length stream.items ≤ stream.next → All ChangeFits items → Covers items (hist tree (stream_branch g)) g.place end
+    → StreamAgrees o vb (with_begun tree start end g) (taken_stream stream items end) (Some (moved_vb x.producer stream.id end)) leader (record { u = feed.u; log = feed.log; flight = feed.flight ++ (end, items) ∷ []; given = feed.given }) (sent_member kn feed items end) in_one h
+marked_stream_begun {g = g} {stream} {feed = feed} {kn} {in_one} {h} tree items start end x s sending low starts whole fits covers =
     let (y, found, ask, sync, place, taken) = x.opened in
     record {
-      put = record { vb_is = s.vb_is; opaque_is = s.opaque_is; no_end = record { until = s.no_end.until; marked = low; gives = s.no_end.gives }; fits = fits; next_in = omega arith; last = (covers, refl); log_lines = s.log_lines; front_is = s.front_is };
-      opens = λ q. record { producer = moved_vb x.producer stream.id end; producer_is = refl; active = x.active; leads = x.leads; opened = (moved_stream y end, moved_here stream.id end x.producer.streams y found, ask, sync, refl, refl) };
+      put = record { vb_is = s.vb_is; opaque_is = s.opaque_is; no_end = record { until = s.no_end.until; marked = low }; fits = fits; next_in = omega arith; last = (covers, refl); log_lines = s.log_lines; front_is = s.front_is };
+      opens = λ q. record { producer = moved_vb x.producer stream.id end; producer_is = refl; active = x.active; leads = x.leads; opened = (moved_stream y end, moved_here stream.id end x.producer.streams y found, ask, sync, refl, refl); reached = λ q. never q };
+      given_in = given_sending h feed.given g.place end sending s.given_in;
+      all_taken = λ q. never (sym sending ∙ pended_sends h q);
       over_ended = s.over_ended;
       coming = snapshot_comes g.coming stream (taken_stream stream items end) feed.flight kn.coming end whole refl s.coming;
       way = record {
@@ -173,11 +186,11 @@ marked_stream_begun {g = g} {stream} {feed = feed} {kn} {in_one} tree items star
 
 -- the frames of a stream with one more snapshot
 frames_more : (o vb : ℕ) (in_one : Bool) (p : Position) (coming : Option (List Change)) (flight : List (ℕ × List Change)) (items : List Change) (start end : ℕ) (front put : List Frame) (f : Frame)
-    → flight_end (marker_start in_one p) flight ≡ start → f ≡ dcp_frame (SnapshotMarker start end 1) o vb → front ++ stream_frames o vb false in_one p coming flight ≡ put
-    → front ++ stream_frames o vb false in_one p coming (flight ++ (end, items) ∷ []) ≡ (put ++ f ∷ []) ++ items_frames o vb items
+    → flight_end (marker_start in_one p) flight ≡ start → f ≡ dcp_frame (SnapshotMarker start end 1) o vb → front ++ stream_frames o vb [] in_one p coming flight ≡ put
+    → front ++ stream_frames o vb [] in_one p coming (flight ++ (end, items) ∷ []) ≡ (put ++ f ∷ []) ++ items_frames o vb items
 frames_more o vb in_one p coming flight items start end front put f starts is old =
     let first : ℕ = marker_start in_one p in let here : List Frame = items_frames o vb (coming_items coming) in
-    let there : List Frame = flight_frames o vb false first flight in let last : List Frame = items_frames o vb items in
+    let there : List Frame = flight_frames o vb [] first flight in let last : List Frame = items_frames o vb items in
     let marker : dcp_frame (SnapshotMarker (flight_end first flight) end 1) o vb ≡ f = ap (λ s. dcp_frame (SnapshotMarker s end 1) o vb) starts ∙ sym is in
     ap (λ fs. front ++ (here ++ fs)) (flight_frames_push o vb first end items flight ∙ ap (λ m. there ++ (m ∷ last)) marker)
     ∙ ap (λ fs. front ++ fs) (sym (append_assoc here there (f ∷ last)))
@@ -187,18 +200,19 @@ frames_more o vb in_one p coming flight items start end front put f starts is ol
 
 -- one more snapshot is on its way, of which the marker was put
 pub marker_streaming : {fv : Wants} {kn : Member} {pv pv' : Option Plain} {leader : Member} {g g' : Option Granted} {served : PlainProducer} {asker : PlainConsumer} {up put : List Frame} (t : Streaming fv kn pv leader g served asker up put)
-    (tree : List Branch) (items : List Change) (start end : ℕ) (f : Frame) (x : Open t.stream.id t.granted_is pv leader t.feed) → t.granted_is.over ≡ false → end ≤ top
+    (tree : List Branch) (items : List Change) (start end : ℕ) (f : Frame) (x : Open t.stream.id t.granted_is pv leader t.feed t.handing) → is_sending t.handing ≡ true → t.granted_is.over ≡ false → end ≤ top
     → length t.stream.items ≤ t.stream.next → All ChangeFits items → Covers items (hist tree (stream_branch t.granted_is)) t.granted_is.place end
     → flight_end (marker_start (is_granted asker.dialed t.seen && not fv.first) kn.position) t.feed.flight ≡ start
     → f ≡ dcp_frame (SnapshotMarker start end 1) asker.asked asker.dialed.vb → pv' ≡ Some (moved_vb x.producer t.stream.id end) → g' ≡ Some (with_begun tree start end t.granted_is)
     → Streaming fv (sent_member kn t.feed items end) pv' leader g' (record served { streams = taken_stream t.stream items end ∷ [] }) asker up (put ++ f ∷ [])
-marker_streaming {fv} {kn} {pv} {leader = leader} {asker = asker} {put = put} t tree items start end f x opens low whole fits covers starts frame moved given =
+marker_streaming {fv} {kn} {pv} {leader = leader} {asker = asker} {put = put} t tree items start end f x sending opens low whole fits covers starts frame moved given =
     let o : ℕ = asker.asked in let vb : ℕ = asker.dialed.vb in let in_one : Bool = is_granted asker.dialed t.seen && not fv.first in
     let feed : Feed = record { u = t.feed.u; log = t.feed.log; flight = t.feed.flight ++ (end, items) ∷ []; given = t.feed.given } in
     let front : List Frame = drop t.seen (first_answers asker.dialed ++ answer_frame o t.feed.log Go ∷ []) in
     let unput_none : t.unput ≡ [] = t.unput_is ∙ ap (items_frames o vb) (drop_whole t.stream.items t.stream.next whole) in
-    let old : front ++ stream_frames o vb false in_one kn.position kn.coming t.feed.flight ≡ put =
-    sym (ap (λ b. front ++ stream_frames o vb b in_one kn.position kn.coming t.feed.flight) opens) ∙ t.all ∙ ap (λ u. put ++ u) unput_none ∙ append-nil put in
+    let none_behind : tail_frames o vb t.handing t.granted_is.over ≡ [] = ap (tail_frames o vb t.handing) opens ∙ sending_tail o vb t.handing sending in
+    let old : front ++ stream_frames o vb [] in_one kn.position kn.coming t.feed.flight ≡ put =
+    sym (ap (λ tail. front ++ stream_frames o vb tail in_one kn.position kn.coming t.feed.flight) none_behind) ∙ t.all ∙ ap (λ u. put ++ u) unput_none ∙ append-nil put in
     record {
       granted_is = with_begun tree start end t.granted_is;
       told = given;
@@ -208,21 +222,35 @@ marker_streaming {fv} {kn} {pv} {leader = leader} {asker = asker} {put = put} t 
         numbered = t.numbered;
         apart = t.apart;
         server = t.server;
+        handing = t.handing;
+        gives_is = t.gives_is;
+        dialed_so = t.dialed_so;
         acks = t.acks;
         unput = items_frames o vb items;
         unput_is = refl;
         all_put = λ q. never (sym q ∙ opens);
+        stated_behind = λ q. never (sym sending ∙ q);
       };
       feed = feed;
       fed = refl;
       log_fits = t.log_fits;
       seen = t.seen;
       taking = t.taking;
-      streams = subst (λ y. StreamAgrees o vb (with_begun tree start end t.granted_is) (taken_stream t.stream items end) y leader feed (sent_member kn t.feed items end) in_one) (sym moved)
-          (marked_stream_begun tree items start end x t.streams low starts whole fits covers);
-      all = ap (λ b. front ++ stream_frames o vb b in_one kn.position kn.coming (t.feed.flight ++ (end, items) ∷ [])) opens
+      streams = subst (λ y. StreamAgrees o vb (with_begun tree start end t.granted_is) (taken_stream t.stream items end) y leader feed (sent_member kn t.feed items end) in_one t.handing) (sym moved)
+          (marked_stream_begun tree items start end x t.streams sending low starts whole fits covers);
+      all = ap (λ tail. front ++ stream_frames o vb tail in_one kn.position kn.coming (t.feed.flight ++ (end, items) ∷ [])) none_behind
           ∙ frames_more o vb in_one kn.position kn.coming t.feed.flight items start end front put f starts frame old;
     }
+
+-- so far as it is handed over
+pub marker_handing : {fv : Wants} {kn : Member} {pv pv' : Option Plain} {leader : Member} {g g' : Option Granted} {served : PlainProducer} {asker : PlainConsumer} {up put : List Frame} (t : Streaming fv kn pv leader g served asker up put)
+    (tree : List Branch) (items : List Change) (start end : ℕ) (f : Frame) (x : Open t.stream.id t.granted_is pv leader t.feed t.handing) (sending : is_sending t.handing ≡ true) (opens : t.granted_is.over ≡ false) (low : end ≤ top)
+    (whole : length t.stream.items ≤ t.stream.next) (fits : All ChangeFits items) (covers : Covers items (hist tree (stream_branch t.granted_is)) t.granted_is.place end)
+    (starts : flight_end (marker_start (is_granted asker.dialed t.seen && not fv.first) kn.position) t.feed.flight ≡ start)
+    (frame : f ≡ dcp_frame (SnapshotMarker start end 1) asker.asked asker.dialed.vb) (moved : pv' ≡ Some (moved_vb x.producer t.stream.id end)) (given : g' ≡ Some (with_begun tree start end t.granted_is))
+    → (marker_streaming t tree items start end f x sending opens low whole fits covers starts frame moved given).handing ≡ t.handing
+unfolding marker_streaming
+marker_handing t tree items start end f x sending opens low whole fits covers starts frame moved given = refl
 
 -- the last of more changes
 

@@ -10,7 +10,7 @@ use Rattle.vb_calls.specs.Durable.{pending_prepares}
 use Rattle.vbucket.proofs.Backing.{Entry, IsEntry, entry_is_found, found_entry}
 
 -- a prepare that waits is at a key
-pend_in : (es : List Entry) (p : Pend) → IsPending p (map (λ e. e.1) es) → (e : Entry) × IsEntry e es × (p ≡ e.1)
+pub pend_in : (es : List Entry) (p : Pend) → IsPending p (map (λ e. e.1) es) → (e : Entry) × IsEntry e es × (p ≡ e.1)
 pend_in [] p i = absurd i
 pend_in (x ∷ es) p i = ⊎_elim (λ s. (x, inl refl, s)) (λ j. let (e, is, same) = pend_in es p j in (e, inr is, same)) i
 

@@ -11,18 +11,19 @@ use Rattle.transcript_law.proofs.Words.{nat_lt, concat, eq-eqb, ne_eqb, nat_test
 use Rattle.transcript_law.proofs.Words.{StreamAsk, request_of, Cluster, Move, SoundCluster, happens, keeps, Plain, quiet_reply, refusal_reply, after_job, after_job_bind, after_job_lift, lift, Position}
 use Rattle.transcript_law.proofs.Words.{with_vb_at, call_at, row_out, row_put, DialResult, with_line, roll_back, named_ask, link_number, PlainLink, StreamName, PlainWorld, with_links, unlinked}
 use Rattle.transcript_law.proofs.{Words.{Chronicle, after_end, after_lines, LawfulLine}, invariant.Tables.{at_here}, invariant.Agreement.{shelf_of, DiskIsIf, IsArm, PowerIs, PowerIsIf, Power, power_of}}
-use Rattle.transcript_law.proofs.invariant.Agreement.{AgreesAt, Agrees, VbAgrees, UpIs, DownAgrees, ServerIs, LinkAgrees, is_refused_ack, spoken, top, consumer_seat, AgreesIn, Busy, idle, own_history, EndsStand}
+use Rattle.transcript_law.proofs.invariant.Agreement.{AgreesAt, Agrees, VbAgrees, UpIs, DownAgrees, ServerIs, LinkAgrees, is_refused_ack, spoken, top, consumer_seat, AgreesIn, Busy, idle, own_history, EndsStand, FollowsBy, IsUnsaid}
 use Rattle.transcript_law.proofs.{invariant.LinkRows.{put_out}, invariant.Carrying.{MemberChanged, Changed, BecameOver, Rearmed, Relinked}, links.Cutting.{unlinking}, invariant.OneLink.{put_here, put_there, disk_here, disk_there, consumer_quiet, carries_armed, carries_left, carries_same, consumer_rests, out_ends}}
 use Rattle.transcript_law.proofs.{lines.Lines.{lawful_more, quiet_more, after_more}, links.Verdicts.{asks_in_range}, links.Frames.{spelled_more}, links.Firsts.{first_count}, links.Requests.{answers_past, ask_readable, request_last, waits_asking}, links.Downing.{Asker, Line, put_kept, so_far, link_now}}
-use Rattle.transcript_law.proofs.{links.Downing.{there, now, gone, lifted_at, busy_at, Before, Reached, linked, moved_agrees, same_powers, shelf_now, shelves_but, found_now, vb_here, vb_put, vb_others}, invariant.Carried.{none_open, one_idle, one_none}, disks.Disks.{ShelfIs, disk_same, parts_of, power_in}}
-use Rattle.transcript_law.proofs.{links.Onward.{Kept, one_back, onward_all, rolled_last, unarmed}, links.Rolling.{bare_point, farthest, roll_end_of, roll_taken_of, rolled_agrees, rolled_disk, rolled_shelf, stood_came}, disks.Burning.{stands_under}}
+use Rattle.transcript_law.proofs.{links.Downing.{Phase, there, now, gone, lifted_at, busy_at, Before, Reached, linked, moved_agrees, same_powers, shelf_now, shelves_but, found_now, vb_here, vb_put, vb_others}, invariant.Carried.{none_open, one_idle, one_none}, disks.Disks.{ShelfIs, disk_same, parts_of, power_in}}
+use Rattle.transcript_law.proofs.{links.Onward.{Kept, one_back, onward_all, onward_beside, onward_level, rolled_last, unarmed}, links.Rolling.{bare_point, farthest, roll_end_of, roll_taken_of, rolled_agrees, rolled_disk, rolled_shelf, stood_came}, disks.Burning.{stands_under}}
 use Rattle.branch_model.proofs.{Journaling.{ends_below, rolls_to}}
 use Rattle.branch_model.specs.Journals.{Covered, IsPoint, batches, cas_of_last, complete_points, end_of, image_at, place_of, roll_point}
 use Rattle.{cluster_model.specs.Clusters.{appended, rolled}, dcp_consumer.specs.Dialing.{flagged}, dcp_consumer.specs.Machine.{over_why, ended_for, request_again, again_by}, disk_journals.specs.Arms.{under}, node_world.specs.Arms.{fuse_or, lifted}, node_world.specs.Nodes.{with_kept}}
 use Rattle.{mcbp_dcp.specs.declared.message.DcpMsg.TheVariants.{StreamRequest}, node_core.specs.Dials.{follower_ask, again_with, again_result, requested_once_more, rolled_back}}
-use Rattle.{transcript_law.specs.Chronicles.{ArmKnown, DiskKnown, after_calls, after_roll, calls_of_append, disk_back, rollback_of, spent}, vb_calls.specs.Following.{rolled_vb}}
+use Rattle.{transcript_law.specs.Chronicles.{ArmKnown, DiskKnown, after_calls, after_roll, calls_of_append, disk_back, is_rise, rollback_of, spent}, vb_calls.specs.Following.{rolled_vb}}
 use Rattle.{vb_calls.specs.declared.calls.VbAnswer.TheVariants.{Named}, vb_calls.specs.declared.calls.VbCall.TheVariants.{Ask}, vb_events.specs.declared.event.EndReason.TheVariants.{Protocol}}
 use Rattle.{vb_events.specs.declared.event.Event.TheVariants.{Rolled}, vb_types.specs.declared.status.Status.TheVariants.{NotMyVbucket}}
+use Rattle.transcript_law.{proofs.{links.Downing.{EndsSo}, links.Takes.{NoneTaken, Took, took_more, took_of, untaken}, verbs.{Tellings.{are_more, same_place}, Untaken.{is_beside}}}, specs.Tellings.{are_all}, specs.TakeoverNotes.{is_role_of}}
 use Rattle.vb_calls.specs.Flushes.{roll_job}
 use Rattle.vb_calls.specs.Shelves.{Shelf, Shelves, with_shelf_at}
 use Rattle.vb_journal.specs.UnderArms.{all_pass, burnt_noting}
@@ -33,7 +34,8 @@ use Rattle.vb_types.specs.declared.journal.Record.TheVariants as noted
 use Rattle.dcp_consumer.specs.declared.handshake.Handshake.TheVariants as waiting
 use Rattle.transcript_law.proofs.{invariant.Bounded.{Weighs, rolled_reads}, links.Followed.{own_is}}
 use Rattle.cluster_model.{proofs.Held.{held_at}, specs.Clusters.{HasAll}}
-use Rattle.transcript_law.proofs.Words.{upto}
+use Rattle.transcript_law.proofs.Words.{AskInRange, is_follower, upto}
+use Rattle.takeover.specs.{TakingOver.{new_take_over}, declared.{take_over.TakeOver.{TakeOver}, take_over.TakeStep.TheVariants.{Pend}}}
 use Rattle.transcript_law.{proofs.invariant.Carrying.{same_arms, same_clients}, specs.Feeding.{client_in}}
 
 -- an answer that sends the consumer of the line back to `named`
@@ -44,13 +46,19 @@ pub record Back (line : Line) : Type 0 where
   pub point : (after_lines line.r events).point_of line.link.consumer.dialed.link ≡ Some named
   pub asks : at.waiting ≡ waiting.Asking
   pub server : ServerIs line.link.server line.link.consumer.dialed (first_count line.link.consumer.dialed)
-  pub untold : (after_lines line.r events).stream_of (StreamName.Link line.link.consumer.dialed.link) line.link.consumer.dialed.vb ≡ None
+  pub untold : IsUnsaid ((after_lines line.r events).stream_of (StreamName.Link line.link.consumer.dialed.link) line.link.consumer.dialed.vb) ((after_lines line.r events).stated_of line.link.consumer.dialed.link)
+  pub unstated : at.taking ≡ new_take_over
   pub no_stream : line.link.server.streams ≡ []
   pub fewer : line.link.server.asked ≤ at.asked
   pub ups : UpIs (link_now line at) [] []
   pub said : List Frame
   pub downs : DownAgrees (link_now line at) rest said
   pub none_said : spoken said ≡ []
+
+-- a request that is flagged is in its range
+flagged_in_range : (b : Bool) (ask : StreamAsk) → AskInRange ask → AskInRange (flagged b ask)
+flagged_in_range true ask a = record { flags = omega arith; start = a.start; end = a.end; uuid = a.uuid; ss = a.ss; se = a.se }
+flagged_in_range false ask a = record { flags = omega arith; start = a.start; end = a.end; uuid = a.uuid; ss = a.ss; se = a.se }
 
 -- where the consumer drops all frames of two lists, it drops those of each
 none_of_both : (xs ys : List Frame) → xs ++ ys ≡ [] → (xs ≡ []) × (ys ≡ [])
@@ -78,9 +86,20 @@ module _ (line : Line) (back : Back line) where
 
   open mine use {follower as fv}
 
+  -- it was told no state, so it follows
+  pub follows : is_follower fv.role ≡ true
+  follows = subst (λ (t : TakeOver). FollowsBy t.last fv.role) back.unstated mine.follows
+
   -- nothing was taken of a stream yet
   pub none_yet : list_any is_taking events ≡ false
   none_yet = false_from_ne_true (list_any is_taking events) (λ t. let z : true ≡ false = sym (met t).0 ∙ ap is_streaming back.asks in cc)
+
+  -- nor was a state told
+  pub none_told : NoneTaken link.consumer.dialed link.consumer.taking at.taking events
+  none_told = untaken r link.consumer.dialed link.consumer.taking at.taking events going.takes (ap (λ (t : TakeOver). t.last) back.unstated)
+
+  pub none_pended : Took link.consumer.dialed events
+  none_pended = took_of r link.consumer.dialed at.taking events going.tells (λ p. let z : None ≡ Some Pend = sym (ap (λ (t : TakeOver). t.last) back.unstated) ∙ p.last in cc)
 
   -- the consumer drops all frames that are to come
   dropped : (spoken rest ≡ []) × (spoken back.downs.behind ≡ [])
@@ -238,7 +257,7 @@ module _ (line : Line) (back : Back line) where
   known = vb_here line states at fv mine.follower_is
 
   pub quiet : (c.nodes k).active ≡ false
-  quiet = consumer_quiet (busy_at line (f ∷ rest)) (now line states at) told c (link_now line at) [] (f ∷ rest) going.agrees mine
+  quiet = consumer_quiet (busy_at line (f ∷ rest)) (now line states at) told c (link_now line at) [] (f ∷ rest) going.agrees mine follows
 
   -- the rollback stands
   module _ (opens : shelf.is_closed ≡ false) (passes : all_pass fuse ≡ true) where
@@ -258,8 +277,12 @@ module _ (line : Line) (back : Back line) where
     abbrev c' : Cluster
     c' = happens c (Move.Roll k to)
 
+    abbrev wish : StreamAsk
+    wish = request_of fv'.log fv'.position
+
+    -- as its link is dialed
     abbrev ask : StreamAsk
-    ask = request_of fv'.log fv'.position
+    ask = flagged link.consumer.dialed.takeover wish
 
     abbrev rolled_line : Event
     rolled_line = Rolled n v named to
@@ -277,7 +300,7 @@ module _ (line : Line) (back : Back line) where
     told' = after_roll told n v to
 
     agrees' : VbAgrees told' n v (c'.nodes k) fv'
-    agrees' = subst (λ m. VbAgrees told' n v m fv') (sym (put_here c.nodes k (rolled (c.nodes k) to))) (rolled_agrees stays told n v (c.nodes k) fv shelf.book to agrees mine.follows covered is_point held_there small heavy all_there)
+    agrees' = subst (λ m. VbAgrees told' n v m fv') (sym (put_here c.nodes k (rolled (c.nodes k) to))) (rolled_agrees stays told n v (c.nodes k) fv shelf.book to agrees follows covered is_point held_there small heavy all_there)
 
     changed : MemberChanged k c c'
     changed = record { tree = refl; others = λ j ne. put_there c.nodes k (rolled (c.nodes k) to) j ne; disks = λ j ne. disk_there c.disks k (appended (c.disks k) (noted.Roll to)) j ne }
@@ -301,14 +324,14 @@ module _ (line : Line) (back : Back line) where
     rolled_came : after_job (roll_back named s) states.0 states.1 ≡ after_job (lift (requested_once_more s')) states'.0 states'.1
     unfolding roll_back
     rolled_came = after_job_bind (roll_job v named) (λ came. lift (rolled_back named s came)) states.0 states.1
-        ∙ ap (λ y. after_job (lift (rolled_back named s y.1)) y.0.0 y.0.1) (stood_came states.0 states.1 v named fv shelf known mine.follows journal.1 opens (ap all_pass journal.2 ∙ passes))
+        ∙ ap (λ y. after_job (lift (rolled_back named s y.1)) y.0.0 y.0.1) (stood_came states.0 states.1 v named fv shelf known follows journal.1 opens (ap all_pass journal.2 ∙ passes))
 
-    asked_came : after_job (lift (requested_once_more s')) states'.0 states'.1 ≡ (states', again_with s' (again_by waiting.Asking ask s'.dial.consumer))
+    asked_came : after_job (lift (requested_once_more s')) states'.0 states'.1 ≡ (states', again_with s' (again_by waiting.Asking wish s'.dial.consumer))
     asked_came = after_job_lift (requested_once_more s') states'.0 states'.1
         ∙ ap (λ o. let y = call_at states'.0 v Ask o in ((y.0, shelves'), again_result s' (follower_ask y.1))) (ap (λ b. if b then Some fv' else states.0 v) (eq-eqb v v refl))
-        ∙ ap (λ b. ((with_vb_at states'.0 v fv', shelves'), again_result s' (named_ask (if b then quiet_reply (Named ask) else refusal_reply NotMyVbucket).answer))) mine.follows
-        ∙ ap (λ st. ((st, shelves'), again_result s' (Some ask))) (put_over states.0 v fv' fv')
-        ∙ ap (λ h. (states', again_with s' (again_by h ask s'.dial.consumer))) back.asks
+        ∙ ap (λ b. ((with_vb_at states'.0 v fv', shelves'), again_result s' (named_ask (if b then quiet_reply (Named wish) else refusal_reply NotMyVbucket).answer))) follows
+        ∙ ap (λ st. ((st, shelves'), again_result s' (Some wish))) (put_over states.0 v fv' fv')
+        ∙ ap (λ h. (states', again_with s' (again_by h wish s'.dial.consumer))) back.asks
 
     -- it asks again
 
@@ -316,7 +339,7 @@ module _ (line : Line) (back : Back line) where
     ask_frame = dcp_frame (StreamRequest ask) (at.asked + 1) v
 
     abbrev again : Asker
-    again = record { out = at.out ++ spelling ask_frame; waiting = at.waiting; asked = at.asked + 1; acked = at.acked }
+    again = record { out = at.out ++ spelling ask_frame; waiting = at.waiting; asked = at.asked + 1; acked = at.acked; taking = at.taking }
 
     -- what is to come and is dropped counts for nothing, so no frame is about to be taken any more
     link_agrees : at.asked + 1 < 2 ^ 32 → LinkAgrees (now line states' again) told' c' (link_now line again) [] []
@@ -340,6 +363,7 @@ module _ (line : Line) (back : Back line) where
             server = back.server;
             consumer = record { waits = back.asks ∙ sym (waits_asking link.consumer.dialed); small = small };
             asks = refl;
+            untold = back.unstated;
             asked_is = sym (request_last (at.asked + 1) link.consumer.dialed ask);
             said_is = dropped.1 ∙ sym (answers_past link.consumer.dialed);
           };
@@ -349,7 +373,7 @@ module _ (line : Line) (back : Back line) where
           joined = refl;
           bytes = ap (λ b. link.up_heard ++ b) (sym (append_assoc link.up at.out (spelling ask_frame)))
               ∙ spelled_more link.up_heard (link.up ++ at.out) [] ask_frame (subst (λ fs. link.up_heard ++ (link.up ++ at.out) ≡ concat (map spelling fs)) (sym back.ups.joined) back.ups.bytes);
-          readable = All-cons Readable ask_frame [] (ask_readable (at.asked + 1) v ask small mine.small.1 (asks_in_range fv' agrees'.sound agrees'.entries)) (All-nil Readable);
+          readable = All-cons Readable ask_frame [] (ask_readable (at.asked + 1) v ask small mine.small.1 (flagged_in_range link.consumer.dialed.takeover wish (asks_in_range fv' agrees'.sound agrees'.entries))) (All-nil Readable);
         };
         downs = downs_behind again;
       };
@@ -382,10 +406,10 @@ module _ (line : Line) (back : Back line) where
     over_disk = disk' (shelf_of (gone line states') n v) ((unlinks (there line states')).shelves n v ∙ shelf_there)
 
     over_agrees : AgreesIn idle (gone line states') (after_end told' l) c'
-    over_agrees = carries_left (busy_at line (f ∷ rest)) idle (now line states at) (gone line states') told (after_end told' l) c c' l (link_now line at) fv fv' going.agrees (found_now line states at) mine.follower_is refl refl
+    over_agrees = carries_left (busy_at line (f ∷ rest)) idle (now line states at) (gone line states') told (after_end told' l) c c' l (link_now line at) fv fv' going.agrees (found_now line states at) mine.follower_is follows follows
         over_world (roll_end_of l n v to told) changed sound (λ x ne. sym (one_idle l ([], f ∷ rest) x ne)) agrees' over_disk
         (consumer_rests (busy_at line (f ∷ rest)) (now line states at) (gone line states') told (after_end told' l) c c' l (link_now line at) fv fv' (row_out link_number l (now line states at).links)
-        going.agrees (found_now line states at) mine.follower_is refl refl over_world (roll_end_of l n v to told) changed agrees' over_disk (λ m. refl) there_still
+        going.agrees (found_now line states at) mine.follower_is follows follows over_world (roll_end_of l n v to told) changed agrees' over_disk (λ m. refl) there_still
         (out_ends (busy_at line (f ∷ rest)) (now line states at) (gone line states') told c l (link_now line at) going.agrees (found_now line states at) over_world.powers over_world.linked))
 
     lawful : LawfulLine told rolled_line []
@@ -395,14 +419,22 @@ module _ (line : Line) (back : Back line) where
     rolled_untaken : list_any is_taking events' ≡ false
     rolled_untaken = list_any-append is_taking events (rolled_line ∷ []) ∙ ap (λ x. x || false) none_yet
 
+    rolled_untold : NoneTaken link.consumer.dialed link.consumer.taking at.taking events'
+    rolled_untold = (none_told.0, list_any-append (is_role_of n v) events (rolled_line ∷ []) ∙ ap (λ x. x || false) none_told.1)
+
+    rolled_beside : are_all is_beside events' ≡ true
+    rolled_beside = are_more is_beside events (rolled_line ∷ []) (onward_beside events going.onward.lines) refl
+
+    rolled_took : Took link.consumer.dialed events'
+    rolled_took = took_more link.consumer.dialed events rolled_line none_pended (same_place n v)
+
+    rolled_level : list_any is_rise events' ≡ false
+    rolled_level = list_any-append is_rise events (rolled_line ∷ []) ∙ ap (λ x. x || false) (onward_level events going.onward.lines)
+
     rolled_dials : (after_lines r events').dial_of ≡ r.dial_of
     rolled_dials = ap (λ (x : Chronicle). x.dial_of) (after_more r events (rolled_line ∷ [])) ∙ (onward_all r events going.onward.lines).dials
 
-    -- what goes out is what it asks for: its link follows alone
-    asked_alone : (let x : Kept × DialResult = (states', again_with s' (request_again ask s'.dial.consumer)) in let y : Kept × DialResult = (states', so_far line again None events') in x ≡ y)
-    asked_alone = λ i. (states', again_with s' (record s'.dial.consumer { asked = at.asked + 1 }, spelling (dcp_frame (StreamRequest (flagged (mine.alone i) ask)) (at.asked + 1) v)))
-
-    by_room : (b : Bool) → nat_lt at.asked (2 ^ 32 - 1) ≡ b → (came : Kept × DialResult) → came ≡ (states', again_with s' (if b then request_again ask s'.dial.consumer else (ended_for Protocol s'.dial.consumer, []))) → Reached line rest came
+    by_room : (b : Bool) → nat_lt at.asked (2 ^ 32 - 1) ≡ b → (came : Kept × DialResult) → came ≡ (states', again_with s' (if b then request_again wish s'.dial.consumer else (ended_for Protocol s'.dial.consumer, []))) → Reached line rest came
     by_room true e came q =
         let low : at.asked + 1 < 2 ^ 32 = grind (arith, nat_tests, e) in
         record {
@@ -410,8 +442,8 @@ module _ (line : Line) (back : Back line) where
           at = again;
           over = None;
           events = events';
-          same = q ∙ asked_alone;
-          rolled = true;
+          same = q;
+          phase = Phase.Rolled;
           stage = (
             none_left,
             record {
@@ -421,13 +453,19 @@ module _ (line : Line) (back : Back line) where
               rolls = rolls;
               dials = rolled_dials;
               none_taken = rolled_untaken;
+              untold = rolled_untold;
+              took = rolled_took;
+              uncut = λ e. cc;
+              beside = rolled_beside;
+              ending = λ why q. cc;
+              level = rolled_level;
               came = (
                 ap over_why back.asks,
                 rolled_last events n v named to,
                 burnt states' left_is fires (busy_at line []) (now line states' again) (with_links (lifted_at line states') (row_put link_number l (link_now line again) w.links)) (after_lines r events') c'
                     (lifts states' (row_put link_number l (link_now line again) w.links))
                     (ap (λ (t : Chronicle). t.arm_at) (after_more r events (rolled_line ∷ [])))
-                    (moved_agrees line f rest states shelves' at again events fv fv' rolled_line c' going journals mine.follower_is refl refl refl refl there_still (roll_taken_of l n v to told) changed sound agrees' (disk' (shelf_of (now line states' again) n v) shelf_there) [] (link_agrees low))
+                    (moved_agrees line f rest states shelves' at again events fv fv' (rolled_line ∷ []) c' going journals mine.follower_is follows follows refl refl there_still (roll_taken_of l n v to told) changed sound agrees' (disk' (shelf_of (now line states' again) n v) shelf_there) [] (link_agrees low))
                     (one_none l),
                 (told_closed ∙ opens, (stands_under fuse was.may_fire passes).answers),
                 one_back events n v named to going.onward.lines,
@@ -437,11 +475,11 @@ module _ (line : Line) (back : Back line) where
         }
     by_room false e came q = record {
       states = states';
-      at = record { out = at.out ++ []; waiting = at.waiting; asked = at.asked; acked = at.acked };
+      at = record { out = at.out ++ []; waiting = at.waiting; asked = at.asked; acked = at.acked; taking = at.taking };
       over = Some Protocol;
       events = events';
       same = q;
-      rolled = true;
+      phase = Phase.Rolled;
       stage = (
         none_left,
         record {
@@ -451,6 +489,12 @@ module _ (line : Line) (back : Back line) where
           rolls = rolls;
           dials = rolled_dials;
           none_taken = rolled_untaken;
+          untold = rolled_untold;
+          took = rolled_took;
+          uncut = λ e. cc;
+          beside = rolled_beside;
+          ending = λ why q. subst (λ k. EndsSo line k events') (let z : Some Protocol ≡ Some why = q in let y : Protocol ≡ why = cc in y) tt;
+          level = rolled_level;
           came = (
             rolled_last events n v named to,
             subst (λ x. Agrees (unlinked link (lifted_at line states')) (after_calls calls_of_append n (after_end x l))) (sym (after_more r events (rolled_line ∷ [])))

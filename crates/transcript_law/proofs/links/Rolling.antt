@@ -9,6 +9,8 @@ use Rattle.transcript_law.proofs.Words.{Change, Chronicle, Dial, Ended, HasLast,
 use Rattle.transcript_law.proofs.disks.Disks.{ShelfIs, bare, no_spots, parts_of}
 use Rattle.transcript_law.proofs.invariant.Agreement.{ChangeFits, EntryFits, VbAgrees, all_rise, no_counts, no_lefts, no_times, own_history, vb_contents, vb_row}
 use Rattle.transcript_law.proofs.invariant.Carried.{no_writer}
+use Rattle.transcript_law.proofs.invariant.Holdings.{opened_as}
+use Rattle.transcript_law.proofs.Words.{with_at}
 use Rattle.transcript_law.proofs.invariant.Carrying.{IsApart, TakenOf}
 use Rattle.transcript_law.proofs.invariant.Tables.{at_here, at_there, ended_there, id_there}
 use Rattle.transcript_law.proofs.invariant.Wholes.{spanned_none}
@@ -95,7 +97,7 @@ rolled_agrees stays r n v m fv book to a f covered point low small heavy all =
         };
       };
       role = a.role;
-      opened = at_here r.open_at n v false;
+      opened = opened_as fv.role (with_at r.open_at n v false n v) false (at_here r.open_at n v false);
       writes = no_writes (after_roll r n v to) n v m.br fv.role (no_writer fv.role f);
       counts = no_counts fv.role (r.counts_at n v) fv.others fv.acks (no_writer fv.role f);
       lefts = no_lefts fv.role (r.counts_at n v).risen to fv.waiting (no_writer fv.role f);
@@ -175,6 +177,7 @@ roll_taken_of l n v to r = record {
   };
   clients = λ m c. refl;
   dials = λ j ne. refl;
+  states = λ j ne. refl;
   streams = λ j q ne apart. refl;
   points = λ j ne apart. ap (λ b. if b then None else r.point_of j) (not_for n v (r.dial_of j) apart);
 }
@@ -190,6 +193,7 @@ roll_end_of l n v to r =
       rows = t.rows;
       clients = t.clients;
       dials = λ j ne. id_there x.dial_of l None j (λ i. ne (sym i));
+      states = λ j ne. id_there x.stated_of l None j (λ i. ne (sym i));
       streams = λ j q ne apart. ended_there x l j q ne;
       points = λ j ne apart. id_there x.point_of l None j (λ i. ne (sym i)) ∙ t.points j ne apart;
     }

@@ -1,13 +1,14 @@
 -- frames of a stream that are put on their way
 use Rattle.std.specs.Prelude.{◌≡◌, ◌+◌, ◌<◌, ◌≤◌, ◌∷◌, ◌++◌}
-use Rattle.transcript_law.proofs.Words.{IsOf, ℕ, zero, suc, List, [], length, drop, take, refl, ap, sym, ◌∙◌, subst, inl, inr, ⊎_elim, arith, append-nil, append_assoc, Some, None}
+use Rattle.transcript_law.proofs.Words.{IsOf, ℕ, zero, suc, List, [], Option, Position, Frame, Role, length, drop, take, refl, ap, sym, ◌∙◌, subst, inl, inr, ⊎_elim, arith, append-nil, append_assoc, Some, None}
 use Rattle.transcript_law.proofs.{Words.{slice_get, ◌^◌, All, Readable, dcp_frame, Act, Change, Doc, IsIn, plain_act, flight_end, act_message, STATE_CHANGED}, invariant.Agreement.{DocFits, ChangeFits, ActFits}}
-use Rattle.transcript_law.proofs.invariant.Agreement.{change_frame, items_frames, flight_frames}
+use Rattle.transcript_law.proofs.invariant.Agreement.{change_frame, items_frames, flight_frames, stream_frames, tail_frames, coming_items, marker_start, Handing, is_sending}
 use Rattle.{std.proofs.lemmas.List.{drop_all}, std.specs.Prelude.{Bool, true, false}, vb_types.specs.Histories.{plain}, vb_types.specs.declared.change.Act.TheVariants.{Abort, Commit, Prepare, Remove, Set}}
 use Rattle.mcbp_dcp.specs.declared.message.DcpMsg.TheVariants as msg
 pub use Rattle.std.proofs.lemmas.Option.{slice_get_within as found_below}
 use Rattle.dcp_consumer.specs.PassiveStreams.{commit_act}
-use Rattle.dcp_producer.specs.Frames.{prepare_message}
+use Rattle.dcp_producer.specs.Frames.{ALL_SENT, prepare_message}
+use Rattle.transcript_law.proofs.links.Frames.{readable}
 use Rattle.vb_types.specs.declared.change.Level.{Level}
 
 -- what is found in a list
@@ -123,21 +124,53 @@ pub end_readable : (o v : ℕ) → o < 2 ^ 32 → v < 1024 → Readable (dcp_fra
 unfolding dcp_frame
 end_readable o v few l = search arith
 
+pub done_readable : (o v : ℕ) → o < 2 ^ 32 → v < 1024 → Readable (dcp_frame (msg.StreamEnd ALL_SENT) o v)
+unfolding dcp_frame
+done_readable o v few l = search arith
+
+-- and of a state
+pub state_readable : (told : Role) (o v : ℕ) → o < 2 ^ 32 → v < 1024 → Readable (dcp_frame (msg.SetVbucketState told) o v)
+state_readable told o v few l = readable (msg.SetVbucketState told) o v tt tt few (omega arith) (omega arith)
+
 -- frames of lists of changes and of snapshots
 
 pub flight_frames_push : (o v start end : ℕ) (items : List Change) (flight : List (ℕ × List Change))
-    → flight_frames o v false start (flight ++ (end, items) ∷ []) ≡ flight_frames o v false start flight ++ (dcp_frame (msg.SnapshotMarker (flight_end start flight) end 1) o v ∷ items_frames o v items)
+    → flight_frames o v [] start (flight ++ (end, items) ∷ []) ≡ flight_frames o v [] start flight ++ (dcp_frame (msg.SnapshotMarker (flight_end start flight) end 1) o v ∷ items_frames o v items)
 flight_frames_push o v start end items [] = ap (λ fs. dcp_frame (msg.SnapshotMarker start end 1) o v ∷ fs) (append-nil (items_frames o v items))
 flight_frames_push o v start end items (x ∷ more) = ap (λ fs. dcp_frame (msg.SnapshotMarker start x.0 1) o v ∷ fs)
     (ap (λ fs. items_frames o v x.1 ++ fs) (flight_frames_push o v x.0 end items more)
-    ∙ sym (append_assoc (items_frames o v x.1) (flight_frames o v false x.0 more) (dcp_frame (msg.SnapshotMarker (flight_end x.0 more) end 1) o v ∷ items_frames o v items)))
+    ∙ sym (append_assoc (items_frames o v x.1) (flight_frames o v [] x.0 more) (dcp_frame (msg.SnapshotMarker (flight_end x.0 more) end 1) o v ∷ items_frames o v items)))
 
--- the end behind them
-pub flight_frames_end : (o v start : ℕ) (flight : List (ℕ × List Change)) → flight_frames o v true start flight ≡ flight_frames o v false start flight ++ dcp_frame (msg.StreamEnd STATE_CHANGED) o v ∷ []
-flight_frames_end o v start [] = refl
-flight_frames_end o v start (x ∷ more) = ap (λ fs. dcp_frame (msg.SnapshotMarker start x.0 1) o v ∷ fs)
-    (ap (λ fs. items_frames o v x.1 ++ fs) (flight_frames_end o v x.0 more)
-    ∙ sym (append_assoc (items_frames o v x.1) (flight_frames o v false x.0 more) (dcp_frame (msg.StreamEnd STATE_CHANGED) o v ∷ [])))
+-- what is behind them
+pub flight_frames_tail : (o v : ℕ) (tail : List Frame) (start : ℕ) (flight : List (ℕ × List Change)) → flight_frames o v tail start flight ≡ flight_frames o v [] start flight ++ tail
+flight_frames_tail o v tail start [] = refl
+flight_frames_tail o v tail start (x ∷ more) = ap (λ fs. dcp_frame (msg.SnapshotMarker start x.0 1) o v ∷ fs)
+    (ap (λ fs. items_frames o v x.1 ++ fs) (flight_frames_tail o v tail x.0 more)
+    ∙ sym (append_assoc (items_frames o v x.1) (flight_frames o v [] x.0 more) tail))
+
+-- one frame more behind all of them
+pub frames_behind : (o v : ℕ) (in_one : Bool) (p : Position) (coming : Option (List Change)) (flight : List (ℕ × List Change)) (tail front put : List Frame) (f : Frame)
+    → front ++ stream_frames o v tail in_one p coming flight ≡ put → front ++ stream_frames o v (tail ++ f ∷ []) in_one p coming flight ≡ put ++ f ∷ []
+frames_behind o v in_one p coming flight tail front put f old =
+    let start : ℕ = marker_start in_one p in let here : List Frame = items_frames o v (coming_items coming) in let there : List Frame = flight_frames o v [] start flight in
+    ap (λ fs. front ++ (here ++ fs)) (flight_frames_tail o v (tail ++ f ∷ []) start flight ∙ sym (append_assoc there tail (f ∷ [])) ∙ ap (λ fs. fs ++ f ∷ []) (sym (flight_frames_tail o v tail start flight)))
+    ∙ ap (λ fs. front ++ fs) (sym (append_assoc here (flight_frames o v tail start flight) (f ∷ [])))
+    ∙ sym (append_assoc front (here ++ flight_frames o v tail start flight) (f ∷ []))
+    ∙ ap (λ fs. fs ++ f ∷ []) old
+
+-- the tail of a stream that puts its snapshots, and what the stream's end adds to one
+pub sending_tail : (o v : ℕ) (h : Handing) → is_sending h ≡ true → tail_frames o v h false ≡ []
+sending_tail o v Handing.Unstated e = refl
+sending_tail o v Handing.Ceded e = refl
+sending_tail o v other e = cc
+
+pub over_tail : (o v : ℕ) (h : Handing) → tail_frames o v h true ≡ tail_frames o v h false ++ dcp_frame (msg.StreamEnd STATE_CHANGED) o v ∷ []
+over_tail o v Handing.Unstated = refl
+over_tail o v Handing.Offered = refl
+over_tail o v Handing.Pended = refl
+over_tail o v Handing.Due = refl
+over_tail o v Handing.Ceded = refl
+over_tail o v Handing.Stated = refl
 
 pub flight_end_push : (from end : ℕ) (items : List Change) (flight : List (ℕ × List Change)) → flight_end from (flight ++ (end, items) ∷ []) ≡ end
 flight_end_push from end items [] = refl

@@ -1,6 +1,8 @@
 -- the frames on their way to a consumer, but for the answers to acknowledgements that were refused
-use Rattle.std.specs.Prelude.{◌≡◌, ◌∷◌, ◌++◌}
-use Rattle.transcript_law.proofs.Words.{ℕ, true, false, not, cond, List, [], refl, ap, ◌∙◌, append-nil, filter-append, Frame, DcpMsg, StreamVerdict, dcp_frame, AskAnswer, LogEntry}
+use Rattle.std.specs.Prelude.{◌≡◌, ◌<◌, ◌∷◌, ◌++◌, ◌^◌}
+use Rattle.dcp_producer.specs.Serving.{status_frame}
+use Rattle.vb_types.specs.Statuses.{status_code}
+use Rattle.transcript_law.proofs.Words.{ℕ, true, false, not, cond, List, [], refl, ap, ◌∙◌, append-nil, arith, filter-append, Frame, Readable, Status, DcpMsg, StreamVerdict, dcp_frame, AskAnswer, LogEntry}
 use Rattle.transcript_law.proofs.invariant.Agreement.{is_refused_ack, spoken, answer_frame}
 
 -- the frame of a message is no such answer
@@ -30,3 +32,21 @@ spoken_push fs f taken = filter-append (λ x. not (is_refused_ack x)) fs (f ∷ 
 
 pub spoken_pushed : (fs : List Frame) (f : Frame) → is_refused_ack f ≡ true → spoken (fs ++ f ∷ []) ≡ spoken fs
 spoken_pushed fs f dropped = filter-append (λ x. not (is_refused_ack x)) fs (f ∷ []) ∙ ap (λ g. spoken fs ++ g) (spoken_dropped f [] dropped) ∙ append-nil (spoken fs)
+
+-- ---- such an answer
+
+-- a status has room in its field
+status_small : (st : Status) → status_code st < 2 ^ 16
+status_small Status.Success = omega arith
+status_small other = omega arith
+
+-- a reader takes an answer that has a status alone
+pub status_readable : (f : Frame) (st : Status) → f.opaque < 2 ^ 32 → Readable (status_frame f st)
+status_readable f st few = record {
+  fits = record { framing = omega arith; extras = omega arith; key = omega arith; body = omega arith };
+  magic = refl;
+  limit = omega arith;
+  vb_or_status = status_small st;
+  opaque = few;
+  cas = omega arith;
+}

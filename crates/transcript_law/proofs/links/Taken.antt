@@ -12,7 +12,7 @@ use Rattle.{dcp_consumer.specs.Dialing.{stream_opaque}, dcp_consumer.specs.Machi
 use Rattle.{dcp_consumer.specs.declared.handshake.ConsumerStep.{ConsumerStep}, dcp_consumer.specs.declared.handshake.Handshake.{Handshake as Waiting}, dcp_consumer.specs.declared.passive_stream.Passive.{Passive}}
 use Rattle.{dcp_consumer.specs.declared.passive_stream.Passive.TheVariants.{Call, End}, mcbp_dcp.specs.declared.message.Deletion.{Deletion}, mcbp_dcp.specs.declared.message.Mutation.{Mutation}}
 use Rattle.{node_core.specs.Dials.{step_made}, std.proofs.Math.Bool.{and-false}, std.proofs.lemmas.Bool.{true_from_ne_false}, vb_calls.specs.declared.calls.VbCall.TheVariants.{Marker, Receive}, vb_types.specs.Limits.{key_of, value_of}}
-use Rattle.{vb_types.specs.declared.change.Act.TheVariants.{Remove, Set, Prepare, Commit, Abort}, vb_types.specs.declared.stream.AskAnswer.TheVariants.{Go}, vb_events.specs.declared.event.EndReason.TheVariants.{Refused, State}}
+use Rattle.{vb_types.specs.declared.change.Act.TheVariants.{Remove, Set, Prepare, Commit, Abort}, vb_types.specs.declared.stream.AskAnswer.TheVariants.{Go}, vb_events.specs.declared.event.EndReason.TheVariants.{Done, Refused, State}}
 use Rattle.vb_events.specs.declared.event.StreamName.TheVariants.{Link}
 use Rattle.mcbp_dcp.specs.declared.message.DcpMsg.TheVariants as msg
 use Rattle.mcbp_dcp.specs.declared.message.StreamVerdict.TheVariants as told
@@ -26,6 +26,8 @@ use Rattle.mcbp_dcp.specs.declared.message.Prepare.{Prepare as Prepared}
 use Rattle.mcbp_dcp.specs.declared.message.Resolution.{Resolution}
 use Rattle.transcript_law.proofs.Words.{Doc}
 use Rattle.vb_types.specs.declared.change.Level.{Level}
+use Rattle.{dcp_consumer.specs.Machine.{state_of as obeyed_as}, dcp_consumer.specs.States.{IsNextOf}, node_core.specs.Dials.{state_made}, node_core.proofs.Taking.{in_place}, takeover.specs.declared.take_over.TakeStep.{TakeStep}}
+use Rattle.transcript_law.proofs.invariant.Agreement.{Handing}
 
 -- what a frame comes to, by its step
 pub as_step : (f : Frame) (s : DialResult) (x : ConsumerStep) → frame_step s.dial.consumer f ≡ x
@@ -129,6 +131,19 @@ pub end_taken : (n v : ℕ) (s : DialResult) → s.dial.consumer.handshake ≡ w
 unfolding dcp_frame
 end_taken n v s w = message_read (msg.StreamEnd STATE_CHANGED) (End State) n v s tt (omega arith) w refl refl refl refl
 
+-- and the end of one whose consumer took the vBucket over
+pub end_done : (n v : ℕ) (s : DialResult) → s.dial.consumer.handshake ≡ waiting.Streaming → frame_taken (dcp_frame (msg.StreamEnd 0) n v) s ≡ Ended (over_for Done s)
+unfolding dcp_frame
+end_done n v s w = message_read (msg.StreamEnd 0) (End Done) n v s tt (omega arith) w refl refl refl refl
+
+-- a state that is in order is obeyed, and is answered with its opaque
+pub state_taken : (take : TakeStep) (n v : ℕ) (s : DialResult) → s.dial.consumer.handshake ≡ waiting.Streaming → s.dial.consumer.dialed.takeover ≡ true → IsNextOf s.dial.consumer.taking.last take
+    → frame_taken (dcp_frame (msg.SetVbucketState (obeyed_as take)) n v) s ≡ state_made take n (with_consumer s (record s.dial.consumer { taking = record { last = Some take } }))
+unfolding dcp_frame
+state_taken take n v s w takes next =
+    (in_place (dcp_frame (msg.SetVbucketState (obeyed_as take)) n v) s).obeyed take
+    ((((λ e. let z : false ≡ true = eq-eqb 0x80 0x81 e in cc), ap over_why w), w, takes), next, message_back (msg.SetVbucketState (obeyed_as take)) n v tt tt)
+
 key_fits : (key : List ℕ) → IsKey key → key_of key ≡ Some key
 key_fits key k = let b : (nat_le 1 (length key) && nat_le (length key) 250) ≡ true = grind (arith, nat_tests) in ap (λ x. if x then Some key else None) b
 
@@ -215,12 +230,14 @@ pub is_none : {A : Type 0} (o : Option A) → is_some o ≡ false → o ≡ None
 is_none None e = refl
 is_none (Some x) e = cc
 
-module _ {o vb : ℕ} {g : Granted} {stream : PlainStream} {pv : Option Plain} {leader : Member} {feed : Feed} {kn : Member} where
+module _ {o vb : ℕ} {g : Granted} {stream : PlainStream} {pv : Option Plain} {leader : Member} {feed : Feed} {kn : Member} {h : Handing} where
   -- a log that is taken over
-  pub stream_adopted : kn.coming ≡ None → StreamAgrees o vb g stream pv leader feed kn false → StreamAgrees o vb g stream pv leader feed (adopted kn (Some feed)) false
+  pub stream_adopted : kn.coming ≡ None → StreamAgrees o vb g stream pv leader feed kn false h → StreamAgrees o vb g stream pv leader feed (adopted kn (Some feed)) false h
   stream_adopted e s = record {
     put = s.put;
     opens = s.opens;
+    given_in = s.given_in;
+    all_taken = λ q. ((s.all_taken q).0, refl);
     over_ended = s.over_ended;
     coming = let c = subst (ComingIs g.coming stream feed.flight) e s.coming in record { all = c.all; last = c.last };
     way = record {
@@ -236,10 +253,12 @@ module _ {o vb : ℕ} {g : Granted} {stream : PlainStream} {pv : Option Plain} {
 
   -- the first snapshot on its way that begins
   pub stream_marked : (x : ℕ × List Change) (more : List (ℕ × List Change)) (in_one : Bool) → kn.coming ≡ Some [] → feed.flight ≡ x ∷ more → kn.position.at < x.0 → last_seq kn.position.at x.1 ≡ x.0
-      → StreamAgrees o vb g stream pv leader feed kn in_one → StreamAgrees o vb (past_mark g) stream pv leader (record feed { flight = more }) (marked_by kn feed (x ∷ more)) true
+      → StreamAgrees o vb g stream pv leader feed kn in_one h → StreamAgrees o vb (past_mark g) stream pv leader (record feed { flight = more }) (marked_by kn feed (x ∷ more)) true h
   stream_marked x more in_one e f above ends s = record {
     put = s.put;
     opens = s.opens;
+    given_in = s.given_in;
+    all_taken = λ q. let none : feed.flight ≡ [] = (s.all_taken q).0 in cc;
     over_ended = s.over_ended;
     coming = marker_comes g.coming stream x more (subst (λ xs. ComingIs g.coming stream xs (Some [])) f (subst (ComingIs g.coming stream feed.flight) e s.coming));
     way = record {
@@ -259,12 +278,14 @@ module _ {o vb : ℕ} {g : Granted} {stream : PlainStream} {pv : Option Plain} {
 
   -- the next change
   pub stream_received : (c : Change) (later : List Change) → kn.coming ≡ Some (c ∷ later) → ((rest : List ItemLine) × (g.coming ≡ item_of_change c ∷ rest) × (map item_of_change (later ++ flight_items feed.flight) ≡ rest ++ map item_of_change (drop stream.next stream.items)))
-      → StreamAgrees o vb g stream pv leader feed kn true → StreamAgrees o vb (past_next g) stream pv leader feed (received kn (Some (c ∷ later))) true
+      → StreamAgrees o vb g stream pv leader feed kn true h → StreamAgrees o vb (past_next g) stream pv leader feed (received kn (Some (c ∷ later))) true h
   stream_received c later e next s =
       let ends : last_seq c.seq later ≡ kn.position.se = sym (ap (λ o. last_seq kn.position.at (coming_items o)) e) ∙ s.in_one_last refl in
       record {
         put = s.put;
         opens = s.opens;
+        given_in = s.given_in;
+        all_taken = λ q. let none : c ∷ later ≡ [] = sym (ap coming_items e) ∙ (s.all_taken q).1 in cc;
         over_ended = s.over_ended;
         coming = taken_comes g.coming stream feed.flight c later (subst (ComingIs g.coming stream feed.flight) e s.coming) next;
         way = record {
@@ -337,3 +358,16 @@ module _ (busy : Busy) (w : PlainWorld) (r : Chronicle) (c : Cluster) (k : ℕ) 
       above = omega (arith, last, above);
       put = (g, (p, dialed, told, on), subst (λ h. IsOf h x) (ap (hist c.tree) (subst (λ o. Linked (ground c) (c.nodes k) o (Some feed)) e linked).0 ∙ same_history) (next_of x xs e), (later, next));
     }
+
+-- a state pending that is next and is taken: nothing was behind it
+pub stream_pended : {o vb : ℕ} {g : Granted} {stream : PlainStream} {pv : Option Plain} {leader : Member} {feed : Feed} {kn : Member} {in_one : Bool} → feed.flight ≡ [] → coming_items kn.coming ≡ []
+    → StreamAgrees o vb g stream pv leader feed kn in_one Handing.Offered → StreamAgrees o vb g stream pv leader feed kn in_one Handing.Pended
+stream_pended none taken s = record {
+  put = s.put;
+  opens = λ e. let p = s.opens e in record { producer = p.producer; producer_is = p.producer_is; active = p.active; leads = p.leads; reached = p.reached; opened = p.opened };
+  given_in = s.given_in;
+  all_taken = λ q. (none, taken);
+  over_ended = s.over_ended;
+  coming = s.coming;
+  way = s.way;
+}

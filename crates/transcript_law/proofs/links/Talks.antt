@@ -1,10 +1,10 @@
 -- where the two ends of a link stand, after the producer's end read or answered
 use Rattle.std.specs.Prelude.{◌≡◌, ◌<◌, ◌≤◌, ◌∷◌, ◌++◌}
-use Rattle.transcript_law.proofs.Words.{ℕ, suc, false, List, [], length, map, take, drop, ap, sym, ◌∙◌, subst, arith, Option, None, concat, drop-append-le, All-tail, All-push, Frame, spelling}
-use Rattle.transcript_law.proofs.Words.{Readable, frames_in, left_of, pieces_of_frames, StreamAsk, Member, Plain, PlainProducer, PlainLink, Granted}
+use Rattle.transcript_law.proofs.Words.{ℕ, suc, false, List, [], length, map, take, drop, ap, sym, ◌∙◌, subst, arith, Option, concat, drop-append-le, All-tail, All-push, Frame, spelling}
+use Rattle.transcript_law.proofs.Words.{Readable, frames_in, left_of, pieces_of_frames, StreamAsk, Member, Plain, PlainProducer, PlainLink, Granted, Role}
 use Rattle.std.proofs.lemmas.List.{length-take}
 use Rattle.transcript_law.proofs.links.Firsts.{Begin, behind_first, first_answers, first_count, front_ends, goes_on_short, request_frames}
-use Rattle.transcript_law.proofs.invariant.Agreement.{UpIs, DownAgrees, ServerIs, Asking, Talk, wants_of, EndsStand, is_refused_ack, spoken}
+use Rattle.transcript_law.proofs.invariant.Agreement.{UpIs, DownAgrees, ServerIs, Asking, IsUnsaid, Talk, wants_of, EndsStand, is_refused_ack, spoken}
 use Rattle.transcript_law.proofs.{links.Frames.{spelled_more}, links.Spoken.{spoken_push}}
 
 -- a link whose producer's end has read n bytes more, of which `left` are no whole frame yet
@@ -28,7 +28,7 @@ module _ (link : PlainLink) (n : ℕ) where
       record { behind = p.later; joined = p.joined; bytes = p.behind; readable = u.readable }
 
   -- the frames that came whole are about to be answered
-  pub read_talk : {fv : Plain} {kn : Member} {pv : Option Plain} {leader : Member} {g : Option Granted} {point : Option ℕ} → Talk fv kn pv leader g point link [] [] → Talk fv kn pv leader g point after_read whole []
+  pub read_talk : {fv : Plain} {kn : Member} {pv : Option Plain} {leader : Member} {g : Option Granted} {last : Option Role} {point : Option ℕ} → Talk fv kn pv leader g last point link [] [] → Talk fv kn pv leader g last point after_read whole []
   read_talk t = record { asked = t.asked; said = t.said; stands = t.stands; ups = read_up t.asked t.ups; downs = t.downs }
 
 -- a link whose producer's end is another one, and what is on its way from it
@@ -54,13 +54,13 @@ module _ (link : PlainLink) (end : PlainProducer) (down : List ℕ) (a : Frame) 
   }
 
   -- one of the first requests was answered
-  pub next_asking : (fv : Plain) (kn : Member) (pv : Option Plain) (leader : Member) (granted : Option Granted) → granted ≡ None → (point : Option ℕ) (ask : StreamAsk) (f g : Frame) (fs asked said : List Frame) (k : ℕ)
+  pub next_asking : (fv : Plain) (kn : Member) (pv : Option Plain) (leader : Member) (granted : Option Granted) (last : Option Role) → IsUnsaid granted last → (point : Option ℕ) (ask : StreamAsk) (f g : Frame) (fs asked said : List Frame) (k : ℕ)
       (t : Asking (wants_of fv) ask link.server link.consumer asked (spoken said)) → UpIs link (f ∷ fs) asked → DownAgrees link [] said
       → down ≡ link.down ++ spelling a → end.streams ≡ link.server.streams → end.asked ≡ link.server.asked → Readable a → is_refused_ack a ≡ false
       → t.answered ≡ k → k < first_count link.consumer.dialed → ServerIs end link.consumer.dialed (suc k)
       → Begin (drop k (request_frames link.consumer.asked link.consumer.dialed ask)) g → Begin (drop k (first_answers link.consumer.dialed)) a
-      → Talk fv kn pv leader granted point answered_link fs []
-  next_asking fv kn pv leader granted none point ask f g fs asked said k t ups downs wrote same_streams same_asked good no_ack is few server (rest, here) (others, says) =
+      → Talk fv kn pv leader granted last point answered_link fs []
+  next_asking fv kn pv leader granted last none point ask f g fs asked said k t ups downs wrote same_streams same_asked good no_ack is few server (rest, here) (others, says) =
       let frames : List Frame = request_frames link.consumer.asked link.consumer.dialed ask in
       let answers : List Frame = first_answers link.consumer.dialed in
       let short : k < length answers = goes_on_short k answers a others says in
@@ -79,6 +79,7 @@ module _ (link : PlainLink) (end : PlainProducer) (down : List ℕ) (a : Frame) 
             server = server;
             consumer = t.consumer;
             asks = t.asks;
+            untold = t.untold;
             asked_is = sym (behind_first k frames g rest here);
             said_is = spoken_push said a no_ack ∙ ap (λ x. x ++ a ∷ []) (t.said_is ∙ ap (λ j. drop t.seen (take j answers)) is)
                 ∙ sym (ap (drop t.seen) (front_ends k answers a others says) ∙ drop-append-le t.seen (take k answers) (a ∷ []) (omega (arith, seen, length-take k answers, short)));

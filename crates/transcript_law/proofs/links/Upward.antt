@@ -1,21 +1,22 @@
 -- lines that move a consumer's bytes to its producer, which answers the frames that came whole
 use Rattle.std.specs.Prelude.{◌≡◌, ◌<◌, ◌≤◌, ◌+◌, ◌^◌, ◌∷◌, ◌++◌, ◌==◌, if◌then◌else◌}
+use Rattle.{dcp_producer.specs.Producers.{is_client}, takeover.specs.declared.take_over.TakeOver.{TakeOver}}
 use Rattle.{dcp_consumer.specs.declared.handshake.Dialed.{Dialed}, dcp_producer.specs.declared.desk.Named.{Named}, dcp_producer.specs.Serving.{next_stream, with_asked}, transcript_law.specs.Feeding.{HasOpen}}
 use Rattle.node_world.specs.Links.{frame_up, result_behind, peer_posted as node_told}
 use Rattle.transcript_law.proofs.disks.Disks.{beside_in}
 use Rattle.transcript_law.proofs.Words.{ℕ, suc, Bool, true, false, List, [], drop, refl, ap, sym, ◌∙◌, subst, arith, append_assoc, cases_lt, inr, ⊎_elim, Option, Some, None, eq-eqb, ne_eqb, eqb-true, eqb-false}
-use Rattle.transcript_law.proofs.Words.{Frame, spelling, left_of, dcp_frame, AskAnswer, AskInRange, LogEntry, StreamAsk, Status, Verdict, Continue, Roll, rule, request_of, Plain, Done, after, after_bind, row_at, row_put, States}
+use Rattle.transcript_law.proofs.Words.{Frame, spelling, left_of, dcp_frame, AskAnswer, AskInRange, LogEntry, StreamAsk, Status, Verdict, Continue, Roll, effective_se, rule, request_of, Plain, Position, Role, is_follower, nat_lt, Done, after, after_bind, row_at, row_put, States}
 use Rattle.transcript_law.proofs.Words.{Member, Cluster, Move, happens, May, keeps, answered, Handshake, PlainProducer, Served, begun, frame_answered, refuse, is_active, stream_at, open_refusal, new_stream}
 use Rattle.transcript_law.proofs.Words.{PeerResult, peer_result, PlainLink, link_number, producer_node, consumer_node, PlainNode, PlainWorld, with_states, with_node_at, with_links, with_up, vb_in, Granted, granted, Chronicle, after_ask, after_line, after_lines}
 use Rattle.transcript_law.proofs.Words.{LawfulAsk, LawfulLine, LawfulVerdict, IsDialed, with_stream, DcpMsg, Event, StreamName}
-use Rattle.transcript_law.proofs.invariant.Agreement.{AckedIs, power_of, vb_of, shelf_of, answer_frame, spoken, Asking, IsRefused, PointAgrees, Talk, consumer_seat, producer_seat, LinkAgrees, AgreesIn, wants_of, DialAgrees, VbAgrees, AgreesAt, top}
+use Rattle.transcript_law.proofs.invariant.Agreement.{AckedIs, FollowsBy, IsUnsaid, power_of, vb_of, shelf_of, answer_frame, spoken, Asking, IsRefused, PointAgrees, Talk, consumer_seat, producer_seat, LinkAgrees, AgreesIn, wants_of, DialAgrees, VbAgrees, AgreesAt, top}
 use Rattle.transcript_law.proofs.{disks.Absent.{nothing_here}, invariant.Carried.{told_of_same, one_here, one_but, no_writer, talk_same}, invariant.Carrying.{Became, FeedChanged, SamePowers, ToldOf}, invariant.LinkRows.{found_is_link, put_is_found, put_twice}}
 use Rattle.transcript_law.proofs.{verbs.NodeLines.{powers_again, shelves_again}, invariant.OneLink.{mine, carries_link, put_here, put_there, carries_producer, disk_here, disk_there}, invariant.Ranged.{NodeRanged}, invariant.Resting.{not_down}, invariant.Seats.{seat}}
 use Rattle.transcript_law.proofs.{links.Spoken.{message_spoken}, invariant.Tables.{id_here, id_there, stream_here, stream_there}, lines.Telling.{LawfulBefore, before_more, none_before, told_more, one_before}}
-use Rattle.transcript_law.proofs.{links.Firsts.{ServedAt, Succeeds, asks_from, first_count, firsts, goes_on_before, request_frames, set_after}, links.Requests.{first_served, request_last}, links.Talks.{come, next_asking}, links.Unread.{answering}}
-use Rattle.transcript_law.proofs.links.Answered.{told_line, refused_told, StatesAre, granted_lines, absent_asked, refused_asked, rolled_asked, granted_asked, refused_talk, asked_opened, granted_talk, streams_opened}
+use Rattle.transcript_law.proofs.{links.Firsts.{ServedAt, Succeeds, asks_from, first_count, firsts, goes_on_before, request_frames, set_after}, links.Requests.{first_served, request_last}, links.Talks.{come, next_asking}, links.Unread.{answering}, links.Reached.{continues_reached}}
+use Rattle.transcript_law.proofs.links.Answered.{flags_known, told_line, refused_told, StatesAre, granted_lines, absent_asked, refused_asked, rolled_asked, granted_asked, refused_talk, asked_opened, granted_talk, streams_opened}
 use Rattle.transcript_law.specs.{LawfulAnswers.{AllDurable}, Lawfulness.{GrantsAs}}
-use Rattle.transcript_law.proofs.links.Verdicts.{active_vb_lines, asks_in_range, roll_low, refusal_named, opens_active, opens_free, absent_lawful, own_lawful, ruled_there, go_lawful, roll_lawful}
+use Rattle.transcript_law.proofs.links.Verdicts.{IsFlagged, active_vb_lines, asks_in_range, flags_in_range, flags_told, roll_low, refusal_named, opens_active, opens_free, absent_lawful, own_lawful, ruled_there, go_lawful, roll_lawful}
 use Rattle.transcript_law.proofs.invariant.Owing.{later_same}
 
 -- an answer that grants nothing tells of no stream
@@ -24,7 +25,13 @@ unasked r l v q ask log AskAnswer.Go refused = absurd refused
 unasked r l v q ask log (AskAnswer.Roll to) refused = refl
 unasked r l v q ask log (AskAnswer.Refuse code) refused = refl
 
--- nor does any tell of a change
+-- nor does any answer tell of a state
+unstated : (r : Chronicle) (l v : ℕ) (ask : StreamAsk) (log : List LogEntry) (said : AskAnswer) → (after_ask r l v ask log said).stated_of ≡ r.stated_of
+unstated r l v ask log AskAnswer.Go = refl
+unstated r l v ask log (AskAnswer.Roll to) = refl
+unstated r l v ask log (AskAnswer.Refuse code) = refl
+
+-- or of a change
 asked_made : (r : Chronicle) (l v : ℕ) (ask : StreamAsk) (log : List LogEntry) (said : AskAnswer) → (after_ask r l v ask log said).made ≡ r.made
 asked_made r l v ask log AskAnswer.Go = refl
 asked_made r l v ask log (AskAnswer.Roll to) = refl
@@ -35,7 +42,7 @@ refused_told_of : (l v : ℕ) (r : Chronicle) (ask : StreamAsk) (log : List LogE
     → (let r' = after_ask r l v ask log said in ToldOf l r r' × (r'.dial_of l ≡ r.dial_of l) × PointAgrees said (r'.point_of l))
 refused_told_of l v r ask log AskAnswer.Go refused = absurd refused
 refused_told_of l v r ask log (AskAnswer.Roll to) refused = (
-  record { last = later_same _ _ refl refl; tree = refl; writer_of = λ u. refl; rows = λ m q. refl; arms = λ m. refl; clients = λ m c. refl; dials = λ j ne. refl; streams = λ k q ne. refl; points = λ k ne. id_there r.point_of l (Some to) k (λ e. ne (sym e)) },
+  record { last = later_same _ _ refl refl; tree = refl; writer_of = λ u. refl; rows = λ m q. refl; arms = λ m. refl; clients = λ m c. refl; dials = λ j ne. refl; streams = λ k q ne. refl; states = λ k ne. refl; points = λ k ne. id_there r.point_of l (Some to) k (λ e. ne (sym e)) },
   refl,
   id_here r.point_of l (Some to),
 )
@@ -114,11 +121,11 @@ module _ (w0 : PlainWorld) (r0 : Chronicle) (n : ℕ) (link0 : PlainLink) (found
   -- a step after which each vBucket is as it was, and that tells of no stream
   module _ (fs gs : List Frame) (x : PlainNode × PeerResult) (now : Now fs x) (st : States) (same : (q : ℕ) → st q ≡ x.0.vbs q) (end : PlainProducer) (lines : List Event) (out : List ℕ) (desk : end.desk ≡ x.1.peer.producer.desk)
       (no_stream : (q id : ℕ) → HasOpen q id end.streams → HasOpen q id x.1.peer.producer.streams) (lawful : LawfulBefore (after_lines r0 x.1.events) lines) (r' : Chronicle) (told : after_lines (after_lines r0 x.1.events) lines ≡ r')
-      (known_of : ToldOf l (after_lines r0 x.1.events) r') (dial : r'.dial_of l ≡ (after_lines r0 x.1.events).dial_of l) (stream : r'.stream_of (StreamName.Link l) v ≡ (after_lines r0 x.1.events).stream_of (StreamName.Link l) v) (made : r'.made ≡ (after_lines r0 x.1.events).made) where
+      (known_of : ToldOf l (after_lines r0 x.1.events) r') (dial : r'.dial_of l ≡ (after_lines r0 x.1.events).dial_of l) (stream : r'.stream_of (StreamName.Link l) v ≡ (after_lines r0 x.1.events).stream_of (StreamName.Link l) v) (state : r'.stated_of l ≡ (after_lines r0 x.1.events).stated_of l) (made : r'.made ≡ (after_lines r0 x.1.events).made) where
     abbrev y : PlainNode × PeerResult
     y = answered_at x st end lines out
 
-    pub quiet_at : Talk (link_now fs x now).follower (now.cluster.nodes (consumer_seat link0)) (vb_of (world_at y) end.desk.node v) (now.cluster.nodes (producer_seat (served_at y.1))) (r'.stream_of (StreamName.Link l) v) (r'.point_of l) (served_at y.1) gs [] → Now gs y
+    pub quiet_at : Talk (link_now fs x now).follower (now.cluster.nodes (consumer_seat link0)) (vb_of (world_at y) end.desk.node v) (now.cluster.nodes (producer_seat (served_at y.1))) (r'.stream_of (StreamName.Link l) v) (r'.stated_of l) (r'.point_of l) (served_at y.1) gs [] → Now gs y
     quiet_at talk =
         let r = after_lines r0 x.1.events in
         let c = now.cluster in
@@ -146,8 +153,8 @@ module _ (w0 : PlainWorld) (r0 : Chronicle) (n : ℕ) (link0 : PlainLink) (found
         }
 
     -- where the link's ends stand so whatever the vBuckets at them are
-    pub quiet : ((kn : Member) (pv : Option Plain) (leader : Member) (g : Option Granted) → g ≡ r'.stream_of (StreamName.Link l) v → Talk (link_now fs x now).follower kn pv leader g (r'.point_of l) (served_at y.1) gs []) → Now gs y
-    quiet talk = quiet_at (talk (now.cluster.nodes (consumer_seat link0)) (vb_of (world_at y) end.desk.node v) (now.cluster.nodes (producer_seat (served_at y.1))) (r'.stream_of (StreamName.Link l) v) refl)
+    pub quiet : ((kn : Member) (pv : Option Plain) (leader : Member) (g : Option Granted) (said : Option Role) → g ≡ r'.stream_of (StreamName.Link l) v → said ≡ r'.stated_of l → Talk (link_now fs x now).follower kn pv leader g said (r'.point_of l) (served_at y.1) gs []) → Now gs y
+    quiet talk = quiet_at (talk (now.cluster.nodes (consumer_seat link0)) (vb_of (world_at y) end.desk.node v) (now.cluster.nodes (producer_seat (served_at y.1))) (r'.stream_of (StreamName.Link l) v) (r'.stated_of l) refl refl)
 
   -- what the frame makes of the node and the connection, by the program that answers it
   abbrev pub came_of : PlainNode × PeerResult → States × Served → PlainNode × PeerResult
@@ -159,13 +166,13 @@ module _ (w0 : PlainWorld) (r0 : Chronicle) (n : ℕ) (link0 : PlainLink) (found
   -- where the link stands with a frame about to be answered
   abbrev pub TalkNow : (f : Frame) (fs : List Frame) (x : PlainNode × PeerResult) → Now (f ∷ fs) x → Type 0
   TalkNow f fs x now = Talk (link_now (f ∷ fs) x now).follower (now.cluster.nodes (consumer_seat link0)) (vb_of (world_at x) (producer_node (served_at x.1)) v) (now.cluster.nodes (producer_seat (served_at x.1)))
-      ((after_lines r0 x.1.events).stream_of (StreamName.Link l) v) ((after_lines r0 x.1.events).point_of l) (served_at x.1) (f ∷ fs) []
+      ((after_lines r0 x.1.events).stream_of (StreamName.Link l) v) ((after_lines r0 x.1.events).stated_of l) ((after_lines r0 x.1.events).point_of l) (served_at x.1) (f ∷ fs) []
 
   abbrev pub AskingNow : (f : Frame) (fs : List Frame) (x : PlainNode × PeerResult) → Now (f ∷ fs) x → StreamAsk → Type 0
   AskingNow f fs x now ask = let la = link_now (f ∷ fs) x now in Asking (wants_of la.follower) ask (served_at x.1).server (served_at x.1).consumer la.talk.asked (spoken la.talk.said)
 
   -- what is answered with success
-  module _ (f : Frame) (fs : List Frame) (x : PlainNode × PeerResult) (now : Now (f ∷ fs) x) (ask : StreamAsk) (none : (after_lines r0 x.1.events).stream_of (StreamName.Link l) v ≡ None) (t : AskingNow f fs x now ask) where
+  module _ (f : Frame) (fs : List Frame) (x : PlainNode × PeerResult) (now : Now (f ∷ fs) x) (ask : StreamAsk) (none : IsUnsaid ((after_lines r0 x.1.events).stream_of (StreamName.Link l) v) ((after_lines r0 x.1.events).stated_of l)) (t : AskingNow f fs x now ask) where
     -- the producer as it begins to answer
     abbrev s : Served
     s = begun x.1.peer.producer
@@ -199,8 +206,8 @@ module _ (w0 : PlainWorld) (r0 : Chronicle) (n : ℕ) (link0 : PlainLink) (found
         let r = after_lines r0 x.1.events in
         subst (Now fs) (sym (frame_came f x ∙ ap (λ h. came_of x (after (frame_answered h s) x.0.vbs)) (sym same) ∙ ap (λ p. came_of x (after p x.0.vbs)) came.came))
         (quiet (f ∷ fs) fs x now x.0.vbs (λ q. refl) came.end [] (spelling a) came.desk (λ q id has. subst (HasOpen q id) came.streams has) (none_before r) r refl
-        (told_of_same l r) refl refl refl
-        (λ kn pv leader g' told. next_asking (served_at x.1) came.end (link0.down ++ (x.1.out ++ spelling a)) a la.follower kn pv leader g' (told ∙ none) (r.point_of l) ask f g fs talk_now.asked talk_now.said k t
+        (told_of_same l r) refl refl refl refl
+        (λ kn pv leader g' said told last. next_asking (served_at x.1) came.end (link0.down ++ (x.1.out ++ spelling a)) a la.follower kn pv leader g' said (told ∙ none.0, last ∙ none.1) (r.point_of l) ask f g fs talk_now.asked talk_now.said k t
         talk_now.ups talk_now.downs (sym (append_assoc link0.down x.1.out (spelling a))) came.streams came.asked at.served.says (message_spoken at.row.answer (suc k) 0) is few (came.set_is ∙ sym at.set)
         (at.asked.0 ++ request, here) at.said))
 
@@ -215,12 +222,12 @@ module _ (w0 : PlainWorld) (r0 : Chronicle) (n : ℕ) (link0 : PlainLink) (found
         (λ behind. subst (λ nm. LawfulLine r (Event.Asked nm s.end.desk.node v ask high log said) behind) (sym la.named) lawful))
         (after_ask r l v ask log said)
         (ap (λ nm. after_line r (Event.Asked nm s.end.desk.node v ask high log said)) la.named)
-        known_of.0 known_of.1 (unasked r l v v ask log said refused) (asked_made r l v ask log said)
-        (λ kn pv leader g told. refused_talk la.follower ask (served_at x.1) (link0.down ++ (x.1.out ++ spelling (answer_frame link0.consumer.asked [] said))) f fs talk_now.asked talk_now.said t is talk_now.ups talk_now.downs kn pv leader g (told ∙ unasked r l v v ask log said refused ∙ none) said refused
+        known_of.0 known_of.1 (unasked r l v v ask log said refused) (ap (λ states. states l) (unstated r l v ask log said)) (asked_made r l v ask log said)
+        (λ kn pv leader g state told last. refused_talk la.follower ask (served_at x.1) (link0.down ++ (x.1.out ++ spelling (answer_frame link0.consumer.asked [] said))) f fs talk_now.asked talk_now.said t is talk_now.ups talk_now.downs kn pv leader g state (told ∙ unasked r l v v ask log said refused ∙ none.0, last ∙ ap (λ states. states l) (unstated r l v ask log said) ∙ none.1) said refused
         ((after_ask r l v ask log said).point_of l) known_of.2 (sym (append_assoc link0.down x.1.out (spelling (answer_frame link0.consumer.asked [] said)))))
 
     -- the request for a stream, which the producer's vBucket decides
-    module _ (last : t.answered ≡ first_count link0.consumer.dialed) where
+    module _ (last : t.answered ≡ first_count link0.consumer.dialed) (noted : ((after_lines r0 x.1.events).takeover_of l).dialed ≡ link0.consumer.dialed.takeover) where
       abbrev o : ℕ
       o = link0.consumer.asked
 
@@ -253,8 +260,15 @@ module _ (w0 : PlainWorld) (r0 : Chronicle) (n : ℕ) (link0 : PlainLink) (found
       dialed_there : IsDialed r l mp v
       dialed_there = (nn, la.dialed)
 
-      in_range : AskInRange ask
-      in_range = subst AskInRange (sym t.asks) (asks_in_range la.follower follower.sound follower.entries)
+      -- its flags are those of the dial
+      flagged_so : IsFlagged r l ask
+      flagged_so = flags_told r l link0.consumer.dialed.takeover ask (request_of la.follower.log la.follower.position) noted t.asks
+
+      linked : is_client s.end.desk.stream ≡ false
+      linked = ap is_client la.named
+
+      pub in_range : AskInRange ask
+      in_range = subst AskInRange (sym t.asks) (flags_in_range link0.consumer.dialed.takeover (request_of la.follower.log la.follower.position) (asks_in_range la.follower follower.sound follower.entries))
 
       in_order : ask.ss ≤ ask.start
       in_order = subst (λ (a : StreamAsk). a.ss ≤ a.start) (sym t.asks) follower.sound.within.0
@@ -295,11 +309,19 @@ module _ (w0 : PlainWorld) (r0 : Chronicle) (n : ℕ) (link0 : PlainLink) (found
           wrote : link0.down ++ (x.1.out ++ spelling (answer_frame o pv.log AskAnswer.Go)) ≡ (link0.down ++ x.1.out) ++ spelling (answer_frame o pv.log AskAnswer.Go)
           wrote = sym (append_assoc link0.down x.1.out (spelling (answer_frame o pv.log AskAnswer.Go)))
 
+          -- no state was taken, so its vBucket follows
+          follows : is_follower fv.role ≡ true
+          follows = subst (λ (y : TakeOver). FollowsBy y.last fv.role) t.untold la.follows
+
           asleep : kn.active ≡ false
-          asleep = follower.member.active ∙ no_writer fv.role la.follows
+          asleep = follower.member.active ∙ no_writer fv.role follows
 
           leads : pn.active ≡ true
           leads = producer.member.active ∙ active
+
+          -- it has all that the request means
+          reached : effective_se ask.start ask.ss ask.se ≤ pn.position.at
+          reached = continues_reached pn.log pn.position.at ask (now.agrees.sound.leads p leads).falls in_order (ruled_there r c now.agrees.sound now.agrees.hists mp v p pv producer ask active Continue ruled)
 
           seats_apart : p ≡ k → ⊥
           seats_apart e = let same : pn.active ≡ kn.active = ap (λ j. (c.nodes j).active) e in let a = asleep in let b = leads in cc
@@ -310,17 +332,18 @@ module _ (w0 : PlainWorld) (r0 : Chronicle) (n : ℕ) (link0 : PlainLink) (found
               let here : vb_of (world_at x) nn v ≡ Some pv = ap (λ j. vb_of (world_at x) j v) (e ∙ sym (ap (λ d. d.node) now.desk)) ∙ known_there (Some pv) known in
               let one : fv ≡ pv = cc in
               let a : is_active fv.role ≡ true = ap (λ (q : Plain). is_active q.role) one ∙ active in
-              let b = no_writer fv.role la.follows in
+              let b = no_writer fv.role follows in
               cc
 
           ends_apart : mp ≡ nn → ⊥
           ends_apart e = nodes_apart (sym e ∙ ap (λ d. d.node) now.desk)
 
-          asks : ask ≡ request_of kn.log kn.position
-          asks = t.asks ∙ sym (ap (λ g. request_of g kn.position) follower.member.log ∙ ap (request_of fv.log) follower.member.position)
+          -- a rule looks at no flags
+          asks : rule pn.log pn.position.at ask ≡ rule pn.log pn.position.at (request_of kn.log kn.position)
+          asks = ap (rule pn.log pn.position.at) t.asks ∙ sym (ap (λ g. rule pn.log pn.position.at (request_of g kn.position)) follower.member.log ∙ ap (λ (at : Position). rule pn.log pn.position.at (request_of fv.log at)) follower.member.position)
 
           may : May top c (Move.Grant k p)
-          may = (asleep, leads, ap (rule pn.log pn.position.at) (sym asks) ∙ ruled_there r c now.agrees.sound now.agrees.hists mp v p pv producer ask active Continue ruled)
+          may = (asleep, leads, sym asks ∙ ruled_there r c now.agrees.sound now.agrees.hists mp v p pv producer ask active Continue ruled)
 
           abbrev c' : Cluster
           c' = happens c (Move.Grant k p)
@@ -342,7 +365,7 @@ module _ (w0 : PlainWorld) (r0 : Chronicle) (n : ℕ) (link0 : PlainLink) (found
           }
 
           known_of : ToldOf l r r'
-          known_of = record { last = later_same _ _ refl refl; tree = refl; writer_of = λ u. refl; rows = λ m q. refl; arms = λ m. refl; clients = λ m c. refl; dials = λ j ne. refl; streams = λ j q ne. stream_there r l v (Some (granted ask pv.log)) j q ne; points = λ j ne. refl }
+          known_of = record { last = later_same _ _ refl refl; tree = refl; writer_of = λ u. refl; rows = λ m q. refl; arms = λ m. refl; clients = λ m c. refl; dials = λ j ne. refl; streams = λ j q ne. stream_there r l v (Some (granted ask pv.log)) j q ne; states = λ j ne. refl; points = λ j ne. refl }
 
           vb_opened : vb_of (world_at came) mp v ≡ Some opened
           vb_opened = ap (λ d. vb_of (world_at came) d.node v) now.desk ∙ vb_here came v ∙ are.here
@@ -357,12 +380,12 @@ module _ (w0 : PlainWorld) (r0 : Chronicle) (n : ℕ) (link0 : PlainLink) (found
           became : Became (world_at x) (world_at came) mp v opened l link'
           became = record { powers = same_powers x came node_of_same_vbs; here = vb_opened; there = others; shelves = λ i q o. same_shelves x came node_of_same_vbs i q; uuids = refl; linked = links_at x came }
 
-          talk : Talk fv (c'.nodes k) (vb_of (world_at came) mp v) (c'.nodes p) (r'.stream_of (StreamName.Link l) v) (r.point_of l) link' fs []
+          talk : Talk fv (c'.nodes k) (vb_of (world_at came) mp v) (c'.nodes p) (r'.stream_of (StreamName.Link l) v) (r.stated_of l) (r.point_of l) link' fs []
           talk =
-              let base : Talk fv (answered kn pn) (Some opened) pn (Some (granted ask pv.log)) (r.point_of l) link' fs []
+              let base : Talk fv (answered kn pn) (Some opened) pn (Some (granted ask pv.log)) None (r.point_of l) link' fs []
               = granted_talk fv ask link (link0.down ++ (x.1.out ++ spelling (answer_frame o pv.log AskAnswer.Go))) f fs talk_now.asked talk_now.said t last talk_now.ups talk_now.downs pv kn pn follower.member.position producer.member.log (now.agrees.sound.leads p leads).front
-              (now.agrees.sound.stands p).ancestry.short producer.entries active free ends_apart wrote (r.point_of l) in
-              talk_same (put_here c.nodes k (answered kn pn)) vb_opened (put_there c.nodes k (answered kn pn) p seats_apart) (stream_here r l v (Some (granted ask pv.log))) refl base
+              (now.agrees.sound.stands p).ancestry.short producer.entries active free ends_apart wrote reached (r.point_of l) in
+              talk_same (put_here c.nodes k (answered kn pn)) vb_opened (put_there c.nodes k (answered kn pn) p seats_apart) (stream_here r l v (Some (granted ask pv.log))) none.1 refl base
 
           lb : LinkAgrees (world_at came) r' c' link' fs []
           lb =
@@ -370,7 +393,7 @@ module _ (w0 : PlainWorld) (r0 : Chronicle) (n : ℕ) (link0 : PlainLink) (found
                 follower = fv;
                 follower_is = vb_there came nn v nodes_apart ∙ sym (vb_there x nn v nodes_apart) ∙ la.follower_is;
                 follows = la.follows;
-                acks = subst (λ o. AckedIs o link0.consumer.acked) (sym (stream_here r l v (Some (granted ask pv.log)))) (subst (λ o. AckedIs o link0.consumer.acked) none la.acks);
+                acks = subst (λ o. AckedIs o link0.consumer.acked) (sym (stream_here r l v (Some (granted ask pv.log)))) (subst (λ o. AckedIs o link0.consumer.acked) none.0 la.acks);
                 dial = la.dial;
                 talk = talk;
               }
@@ -378,7 +401,7 @@ module _ (w0 : PlainWorld) (r0 : Chronicle) (n : ℕ) (link0 : PlainLink) (found
           line_lawful : (behind : List _) → LawfulLine r (told_line s v ask pv.log pv.position.at AskAnswer.Go) behind
           line_lawful behind =
               subst (λ nm. LawfulLine r (Event.Asked nm mp v ask pv.position.at pv.log AskAnswer.Go) behind) (sym la.named)
-              (own_lawful r c now.agrees.sound now.agrees.hists mp v p pv producer ask l dialed_there (ap (λ (a : StreamAsk). a.flags) t.asks) AskAnswer.Go (go_lawful r c now.agrees.sound now.agrees.hists mp v p pv producer ask active in_order ruled)
+              (own_lawful r c now.agrees.sound now.agrees.hists mp v p pv producer ask l dialed_there flagged_so AskAnswer.Go (go_lawful r c now.agrees.sound now.agrees.hists mp v p pv producer ask active in_order ruled)
               (active_vb_lines r c now.agrees.sound now.agrees.hists mp v p pv producer ask active))
 
           told : after_lines r0 came.1.events ≡ r'
@@ -394,7 +417,7 @@ module _ (w0 : PlainWorld) (r0 : Chronicle) (n : ℕ) (link0 : PlainLink) (found
             agrees = subst (λ q. AgreesIn (answering l fs) (world_at came) q c') (sym told)
                 (carries_producer (answering l (f ∷ fs)) (answering l fs) (world_at x) (world_at came) r r' c c' l link link' (next_stream s.end) pv opened now.agrees (found_at x)
                 (record { dialed = refl; desk = refl }) (known_there (Some pv) known) (streams_opened fv ask link (link0.down ++ (x.1.out ++ spelling (answer_frame o pv.log AskAnswer.Go))) f fs talk_now.asked talk_now.said t last talk_now.ups talk_now.downs pv kn pn follower.member.position producer.member.log (now.agrees.sound.leads p leads).front
-                (now.agrees.sound.stands p).ancestry.short producer.entries active free ends_apart wrote producer.sound) became (same_shelves x came node_of_same_vbs mp v) (inr free) (λ q k has. ⊎_elim (λ o. (sym o.0, sym o.1)) (λ none. absurd none) has) known_of fed (keeps top c (Move.Grant k p) now.agrees.sound may)
+                (now.agrees.sound.stands p).ancestry.short producer.entries active free ends_apart wrote reached producer.sound) became (same_shelves x came node_of_same_vbs mp v) (inr free) (λ q k has. ⊎_elim (λ o. (sym o.0, sym o.1)) (λ none. absurd none) has) known_of fed (keeps top c (Move.Grant k p) now.agrees.sound may)
                 (one_but l (f ∷ fs, []) (fs, [])) (subst (λ q. LinkAgrees (world_at came) r' c' link' q.0 q.1) (sym (one_here l (fs, []))) lb));
             calm = subst AllDurable (sym (ap (λ (k : Chronicle). k.made) told)) now.calm;
             desk = now.desk;
@@ -415,16 +438,16 @@ module _ (w0 : PlainWorld) (r0 : Chronicle) (n : ℕ) (link0 : PlainLink) (found
       numbers_left : s.end.asked + 1 < 2 ^ 32
       numbers_left = let below = t.fewer in let small : link0.consumer.asked < 2 ^ 32 = t.consumer.small in omega (arith, below, small)
 
-      no_flags : ask.flags ≡ 0
-      no_flags = ap (λ (a : StreamAsk). a.flags) t.asks
+      low_flags : nat_lt 1 ask.flags ≡ false
+      low_flags = flags_known link0.consumer.dialed.takeover ask (request_of la.follower.log la.follower.position) t.asks
 
       -- a running node's vBucket that is not made holds nothing, and the lines tell so
       absent : x.0.vbs v ≡ None → Now fs (frame_up f x)
       absent none =
           let nothing = nothing_here (world_at x) r c mp v now.agrees (known_there None none) (not_down (power_of (world_at x) mp) (now.agrees.ends link (found_is_link l (world_at x).links link (found_at x)).0).producer) in
-          answered_as (x.0.vbs, refused_told s o v ask [] 0 (AskAnswer.Refuse 7)) (absent_asked o v nn ask s in_range asked_open no_flags t.no_stream numbers_left x.0.vbs none)
+          answered_as (x.0.vbs, refused_told s o v ask [] 0 (AskAnswer.Refuse 7)) (absent_asked o v nn ask s in_range asked_open low_flags linked t.no_stream numbers_left x.0.vbs none)
           (refuse_last last x.0.vbs (λ q. refl) [] 0 (AskAnswer.Refuse 7) (λ e. omega arith, λ e. omega arith, omega arith)
-          (absent_lawful r l mp v ask dialed_there no_flags nothing.log nothing.held))
+          (absent_lawful r l mp v ask dialed_there flagged_so nothing.log nothing.held))
 
       module _ (pv : Plain) (known : x.0.vbs v ≡ Some pv) where
         same_states : (st : States) → StatesAre x.0.vbs v pv st → (q : ℕ) → st q ≡ x.0.vbs q
@@ -440,21 +463,21 @@ module _ (w0 : PlainWorld) (r0 : Chronicle) (n : ℕ) (link0 : PlainLink) (found
         refused_now st are said refused verdict grants e =
             answered_as (st, refused_told s o v ask pv.log pv.position.at said) e
             (refuse_last last st (same_states st are) pv.log pv.position.at said refused
-            (own_lawful r c now.agrees.sound now.agrees.hists mp v p pv (producer pv known) ask l dialed_there no_flags said verdict grants))
+            (own_lawful r c now.agrees.sound now.agrees.hists mp v p pv (producer pv known) ask l dialed_there flagged_so said verdict grants))
 
         refuses : (why : Status) → open_refusal pv (next_stream s.end) ask ≡ Some why → Now fs (frame_up f x)
         refuses why because =
-            let a = refused_asked o v nn ask s in_range asked_open no_flags t.no_stream numbers_left x.0.vbs pv known why because in
+            let a = refused_asked o v nn ask s in_range asked_open low_flags linked t.no_stream numbers_left x.0.vbs pv known why because in
             let named = refusal_named pv (next_stream s.end) ask why because in
             refused_now a.0 a.1 (refuse why) named named.0 tt a.2
 
         module _ (active : is_active pv.role ≡ true) where
           judges : open_refusal pv (next_stream s.end) ask ≡ None → (said : Verdict) → rule pv.log pv.position.at ask ≡ said → Now fs (frame_up f x)
           judges opens Continue ruled =
-              let a = granted_asked o v nn ask s in_range asked_open no_flags t.no_stream numbers_left x.0.vbs pv known opens ruled in
+              let a = granted_asked o v nn ask s in_range asked_open low_flags linked t.no_stream numbers_left x.0.vbs pv known opens ruled in
               answered_as (a.0, granted_lines s o v ask pv.log pv.position.at) a.2 (granted_now pv known active (opens_free pv (next_stream s.end) ask active opens) ruled a.0 a.1)
           judges opens (Roll to) ruled =
-              let a = rolled_asked o v nn ask s in_range asked_open no_flags t.no_stream numbers_left x.0.vbs pv known to opens ruled in
+              let a = rolled_asked o v nn ask s in_range asked_open low_flags linked t.no_stream numbers_left x.0.vbs pv known to opens ruled in
               refused_now a.0 a.1 (AskAnswer.Roll to) (roll_low pv.log pv.position.at ask to in_range ruled)
               (roll_lawful r c now.agrees.sound now.agrees.hists mp v p pv (producer pv known) ask active to ruled) (active_vb_lines r c now.agrees.sound now.agrees.hists mp v p pv (producer pv known) ask active) a.2
 
@@ -471,6 +494,7 @@ module _ (w0 : PlainWorld) (r0 : Chronicle) (n : ℕ) (link0 : PlainLink) (found
       request_decided = by_vb (x.0.vbs v) refl
 
   -- a frame that a consumer sent as it dialed, or its request for a stream
-  pub asking_next : (f : Frame) (fs : List Frame) (x : PlainNode × PeerResult) (now : Now (f ∷ fs) x) (ask : StreamAsk) → (after_lines r0 x.1.events).stream_of (StreamName.Link l) v ≡ None → AskingNow f fs x now ask → Now fs (frame_up f x)
-  asking_next f fs x now ask none t =
-      ⊎_elim (λ few. success f fs x now ask none t t.answered refl few) (λ all. request_decided f fs x now ask none t (let most : t.answered ≤ first_count link0.consumer.dialed = t.some_left in omega arith)) (cases_lt t.answered (first_count link0.consumer.dialed))
+  pub asking_next : (f : Frame) (fs : List Frame) (x : PlainNode × PeerResult) (now : Now (f ∷ fs) x) (ask : StreamAsk) → IsUnsaid ((after_lines r0 x.1.events).stream_of (StreamName.Link l) v) ((after_lines r0 x.1.events).stated_of l) → ((after_lines r0 x.1.events).takeover_of l).dialed ≡ link0.consumer.dialed.takeover
+      → AskingNow f fs x now ask → Now fs (frame_up f x)
+  asking_next f fs x now ask none noted t =
+      ⊎_elim (λ few. success f fs x now ask none t t.answered refl few) (λ all. request_decided f fs x now ask none t (let most : t.answered ≤ first_count link0.consumer.dialed = t.some_left in omega arith) noted) (cases_lt t.answered (first_count link0.consumer.dialed))

@@ -1,10 +1,11 @@
 -- what is told of a request for a stream is lawful
-use Rattle.std.specs.Prelude.{◌≡◌, ◌<◌, ◌≤◌, ◌∷◌, ◌==◌, if◌then◌else◌, ◌^◌}
-use Rattle.transcript_law.proofs.Words.{ℕ, Bool, true, false, cond, List, [], refl, ap, sym, ◌∙◌, subst, arith, min, inl, Option, Some, None, nat_le, All, filter}
+use Rattle.std.specs.Prelude.{◌≡◌, ◌<◌, ◌≤◌, ◌∷◌, ◌==◌, if◌then◌else◌, ◌^◌, ◌⊎◌}
+use Rattle.transcript_law.proofs.Words.{ℕ, Bool, true, false, cond, List, [], refl, ap, sym, ◌∙◌, subst, arith, min, inl, inr, Option, Some, None, nat_le, All, filter}
 use Rattle.transcript_law.proofs.Words.{eqb-false, All-head, All-tail, AskInRange, AskAnswer, Position, LogEntry, Status, StreamAsk, Verdict, Continue, Roll, upto, last_seq, front, uuid_of, IsFront}
 use Rattle.transcript_law.proofs.Words.{effective_ss, effective_se, rule, request_of, reach_of, Branch, hist, Shared, Cluster, SoundCluster, Stream, Plain, is_active, open_refusal, stream_at, Sound}
 use Rattle.transcript_law.proofs.Words.{refuse, Chronicle, IsIfKnown, LawfulVerdict, IsDialed, LawfulAsk, entry_for, upper, judged, continues, rolls, is_ranged, id_refusal, first_reason}
 use Rattle.transcript_law.proofs.Words.{meant_end, Role, SharesFront}
+use Rattle.dcp_consumer.specs.Dialing.{flagged}
 use Rattle.transcript_law.specs.StreamLaws.{GrantsAs, LawfulSaid}
 use Rattle.transcript_law.proofs.invariant.Agreement.{EntryFits, IsRefused, VbAgrees, top}
 
@@ -29,6 +30,11 @@ asks_in_range vb sound fits =
       ss = omega (arith, most, low, high);
       se = omega (arith, most);
     }
+
+-- also with the flags of a dial
+pub flags_in_range : (takeover : Bool) (ask : StreamAsk) → AskInRange ask → AskInRange (flagged takeover ask)
+flags_in_range true ask fits = record { flags = omega arith; start = fits.start; end = fits.end; uuid = fits.uuid; ss = fits.ss; se = fits.se }
+flags_in_range false ask fits = record { flags = omega arith; start = fits.start; end = fits.end; uuid = fits.uuid; ss = fits.ss; se = fits.se }
 
 -- a request that means an end above 0 starts above 0
 starts_above : (start ss se : ℕ) → ss ≤ start → 0 < effective_se start ss se → 0 < start
@@ -83,12 +89,21 @@ opens_free vb id ask active e =
     elim (stream_at id vb.streams) as (λ o. first_reason (id_refusal id o) (if is_ranged ask then None else Some Status.Erange) ≡ None → o ≡ None) [ None ↦ λ q. refl | Some s ↦ λ q. cc ]
     (sym (ap (λ b. if b then first_reason (id_refusal id (stream_at id vb.streams)) (if is_ranged ask then None else Some Status.Erange) else Some Status.NotMyVbucket) active) ∙ e)
 
+-- a request has no flag, unless its link was dialed for a takeover
+abbrev pub IsFlagged : Chronicle → ℕ → StreamAsk → Type 0
+IsFlagged r l ask = (ask.flags ≡ 0) ⊎ ((r.takeover_of l).dialed ≡ true)
+
+-- by how the link was dialed, as the lines tell
+pub flags_told : (r : Chronicle) (l : ℕ) (takeover : Bool) (ask asked : StreamAsk) → (r.takeover_of l).dialed ≡ takeover → ask ≡ flagged takeover asked → IsFlagged r l ask
+flags_told r l true ask asked dialed is = inr dialed
+flags_told r l false ask asked dialed is = inl (ap (λ (a : StreamAsk). a.flags) is)
+
 -- a request of an absent vBucket
 pub absent_said : (r : Chronicle) (n v : ℕ) (ask : StreamAsk) → r.log_at n v ≡ Some [] → r.held n v ≡ [] → LawfulSaid r n v ask 0 [] (AskAnswer.Refuse 7)
 absent_said r n v ask log held = record { own_log = subst (λ o. IsIfKnown o []) (sym log) refl; own_high = sym (ap (last_seq 0) held); verdict = λ e. omega arith; active = tt }
 
-pub absent_lawful : (r : Chronicle) (l n v : ℕ) (ask : StreamAsk) → IsDialed r l n v → ask.flags ≡ 0 → r.log_at n v ≡ Some [] → r.held n v ≡ [] → LawfulAsk r l n v ask 0 [] (AskAnswer.Refuse 7)
-absent_lawful r l n v ask dialed plain log held = record { dialed = dialed; plain = inl plain; answered = absent_said r n v ask log held }
+pub absent_lawful : (r : Chronicle) (l n v : ℕ) (ask : StreamAsk) → IsDialed r l n v → IsFlagged r l ask → r.log_at n v ≡ Some [] → r.held n v ≡ [] → LawfulAsk r l n v ask 0 [] (AskAnswer.Refuse 7)
+absent_lawful r l n v ask dialed plain log held = record { dialed = dialed; plain = plain; answered = absent_said r n v ask log held }
 
 -- the branch in front of a log, in another tree with the same histories
 shares_front : (a b : List Branch) → ((u : ℕ) → hist a u ≡ hist b u) → (log : List LogEntry) (uuid br n : ℕ) → IsFront log br → Shared a uuid br n → SharesFront b uuid log n
@@ -101,8 +116,8 @@ module _ (r : Chronicle) (c : Cluster) (sound : SoundCluster top c) (same : (u :
   pub own_said : (said : AskAnswer) → LawfulVerdict r.tree pv.log pv.position.at ask said → GrantsAs (r.role_at n v) said → LawfulSaid r n v ask pv.position.at pv.log said
   own_said said verdict active = record { own_log = subst (λ o. IsIfKnown o pv.log) (sym agrees.log) refl; own_high = sym (ap (last_seq 0) agrees.held ∙ agrees.high); verdict = verdict; active = active }
 
-  pub own_lawful : (l : ℕ) → IsDialed r l n v → ask.flags ≡ 0 → (said : AskAnswer) → LawfulVerdict r.tree pv.log pv.position.at ask said → GrantsAs (r.role_at n v) said → LawfulAsk r l n v ask pv.position.at pv.log said
-  own_lawful l dialed plain said verdict active = record { dialed = dialed; plain = inl plain; answered = own_said said verdict active }
+  pub own_lawful : (l : ℕ) → IsDialed r l n v → IsFlagged r l ask → (said : AskAnswer) → LawfulVerdict r.tree pv.log pv.position.at ask said → GrantsAs (r.role_at n v) said → LawfulAsk r l n v ask pv.position.at pv.log said
+  own_lawful l dialed plain said verdict active = record { dialed = dialed; plain = plain; answered = own_said said verdict active }
 
   module _ (active : is_active pv.role ≡ true) where
     leads : (c.nodes p).active ≡ true

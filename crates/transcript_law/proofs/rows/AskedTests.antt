@@ -197,7 +197,7 @@ client_so ClientVerb.Hang lines e = tt
 
 pub asked_so : (line : Verb) (lines : List Event) (said : Answer) → is_asked_so line lines said ≡ true → TellsAsAsked line lines said
 asked_so (Verb.Node n) lines said e = tt
-asked_so (Verb.Link l m n v buffer) lines said e = tt
+asked_so (Verb.Link l m n v buffer takeover) lines said e = tt
 asked_so (Verb.AtNode n what) lines said e = node_so what lines e
 asked_so (Verb.AtVb n v what) lines said e = vb_so n v what lines said e
 asked_so (Verb.AtClient n c what) lines said e = client_so what lines e
@@ -235,7 +235,7 @@ refused_client ClientVerb.Hang = tt
 
 pub refused_asked : (line : Verb) (why : Cause) → IsStanding why → TellsAsAsked line [] (answer.No why)
 refused_asked (Verb.Node n) why s = tt
-refused_asked (Verb.Link l m n v buffer) why s = tt
+refused_asked (Verb.Link l m n v buffer takeover) why s = tt
 refused_asked (Verb.AtNode n what) why s = refused_node what
 refused_asked (Verb.AtVb n v what) why s = refused_vb n v what why s
 refused_asked (Verb.AtClient n c what) why s = refused_client what

@@ -1,6 +1,6 @@
 -- lines for a node that is down, and over a link that ended with its node, judged by hand
 use Rattle.std.specs.Prelude.{◌≡◌, ◌<◌, ◌∷◌, ◌++◌}
-use Rattle.transcript_law.proofs.Words.{ℕ, true, false, List, [], refl, inl, ⊎_elim, arith, Event, Role, LawfulFrom, LawfulGroups, granted_inside}
+use Rattle.transcript_law.proofs.Words.{ℕ, Bool, true, false, List, [], refl, inl, ⊎_elim, arith, Event, Role, LawfulFrom, LawfulGroups, granted_inside}
 use Rattle.transcript_law.proofs.{rows.CrashRows.{first, lawful_from_made, no_role, cut_off, one_closed}, rows.Followers.{begun, next_covers}, rows.Ended.{one_cut}, rows.Groups.{Told, whole}, rows.Silent.{shut_heard}}
 use Rattle.transcript_law.specs.Crashes.{LawfulAfter, Said, ok, branch_line, restarted}
 use Rattle.transcript_law.specs.Downs.{refused, crash_and, crash_and_groups, start_and, start_and_groups, begun_and_crashed, crash_under_link, crash_under_link_groups}
@@ -37,8 +37,8 @@ makes lines l = ⊎_elim (λ e. cc) (λ x. x) l.1.1.1.1.1.0.1.1
 pub opens : (lines : List Event) → LawfulAfter (crash_and (verb.AtClient 0 1 client_verb.Open)) (crash_and_groups (ok lines)) → ⊥
 opens lines l = ⊎_elim (λ e. cc) (λ x. x) l.1.1.1.1.1.0.1.1
 
-pub dials : (buffer : ℕ) (lines : List Event) → LawfulAfter (crash_and (verb.Link 1 0 0 0 buffer)) (crash_and_groups (ok lines)) → ⊥
-dials buffer lines l = ⊎_elim (λ e. cc) (λ x. ⊎_elim (λ e. cc) (λ y. y) x) l.1.1.1.1.1.0.1.1
+pub dials : (buffer : ℕ) (takeover : Bool) (lines : List Event) → LawfulAfter (crash_and (verb.Link 1 0 0 0 buffer takeover)) (crash_and_groups (ok lines)) → ⊥
+dials buffer takeover lines l = ⊎_elim (λ e. cc) (λ x. ⊎_elim (λ e. cc) (λ y. y) x) l.1.1.1.1.1.0.1.1
 
 pub crashes_twice : (lines : List Event) → LawfulAfter (crash_and (verb.AtNode 0 (node_verb.Crash Old))) (crash_and_groups (ok lines)) → ⊥
 crashes_twice lines l = ⊎_elim (λ e. cc) (λ x. x) l.1.1.1.1.1.0.1.1

@@ -126,9 +126,9 @@ up_carried = here (over_one (LinkVerb.Up 9)) ([], Answer.Number 9) refl ((tt, om
 
 -- ---- a link that is dialed
 
-here_dialed : (m l n v : ℕ) (said : Answer) → in_line one_dialed (numbered 1 (Verb.Link l m n v 0 ∷ [])) (groups_from_number 1 (([], said) ∷ [])) ≡ true → (let script = numbered 1 (Verb.Link l m n v 0 ∷ []) in let told = groups_from_number 1 (([], said) ∷ []) in AreParts one_dialed script told → AreLeft one_dialed script told → all_quiet script told ≡ true → LawfulHere one_dialed (Verb.Link l m n v 0) ([], said))
+here_dialed : (m l n v : ℕ) (said : Answer) → in_line one_dialed (numbered 1 (Verb.Link l m n v 0 false ∷ [])) (groups_from_number 1 (([], said) ∷ [])) ≡ true → (let script = numbered 1 (Verb.Link l m n v 0 false ∷ []) in let told = groups_from_number 1 (([], said) ∷ []) in AreParts one_dialed script told → AreLeft one_dialed script told → all_quiet script told ≡ true → LawfulHere one_dialed (Verb.Link l m n v 0 false) ([], said))
 here_dialed m l n v said o p d q =
-    let script = numbered 1 (Verb.Link l m n v 0 ∷ []) in let told = groups_from_number 1 (([], said) ∷ []) in
+    let script = numbered 1 (Verb.Link l m n v 0 false ∷ []) in let told = groups_from_number 1 (([], said) ∷ []) in
     whole_left one_dialed script told o p d (shut_heard one_dialed script told (λ n c. refl) refl) (tt, tt) (fired_all one_dialed script told q (p.0.2, tt))
 
 pub again : LawfulHere one_dialed (dials 1 1) (ok []) → ⊥

@@ -16,7 +16,7 @@ Undialed r = (l : ℕ) → r.dial_of l ≡ None
 
 -- nor is one
 abbrev pub dials_no : Verb → Bool
-dials_no (Verb.Link l m n v buffer) = false
+dials_no (Verb.Link l m n v buffer takeover) = false
 dials_no other = true
 
 abbrev pub dials_none : List ScriptLine → Bool
@@ -57,7 +57,7 @@ undialed_ended r (line ∷ lines) (group ∷ groups) o none =
     )
   where
     never : (line : Verb) (said : Answer) (l : ℕ) → dials_no line ≡ true → IsNew line said l → ⊥
-    never (Verb.Link k m n v buffer) said l o new = cc
+    never (Verb.Link k m n v buffer takeover) said l o new = cc
     never other said l o new = absurd new
 undialed_ended r [] groups o none = tt
 undialed_ended r (line ∷ lines) [] o none = tt

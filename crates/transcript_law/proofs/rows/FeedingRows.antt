@@ -1,11 +1,12 @@
 -- worlds of two nodes, judged by hand
 use Rattle.std.specs.Prelude.{◌≡◌, ◌∷◌, ◌==◌, if◌then◌else◌}
-use Rattle.transcript_law.proofs.Words.{ℕ, Bool, true, false, [], refl, sym, ap, ◌∙◌, subst, inl, inr, eqb-true, arith, Some, None, Role, Plain, PlainLink, PlainNode, link_number, producer_node, consumer_node, vb_in}
+use Rattle.transcript_law.proofs.Words.{ℕ, Bool, true, false, [], refl, sym, ap, ◌∙◌, subst, inl, inr, ⊎_elim, eqb-true, arith, Option, Some, None, Role, Plain, PlainLink, PlainNode, link_number, producer_node, consumer_node, vb_in}
 use Rattle.vb_types.specs.declared.stream.StreamAsk.{StreamAsk}
 use Rattle.dcp_producer.specs.Producers.{PlainStream}
 use Rattle.vb_calls.specs.declared.stream.Stream.{Stream}
-use Rattle.transcript_law.specs.Feeding.{HasFed, IsLinked, IsOf, LinksAreFed, StreamsAreFed}
-use Rattle.transcript_law.specs.FeedingRows.{GoesOn, down, feeding, has_one, has_streams, one_node, streaming, streaming_both, two_nodes, up}
+use Rattle.takeover.specs.declared.take_over.TakeStep.{TakeStep}
+use Rattle.transcript_law.specs.Feeding.{FollowsOrOwns, HasFed, IsLinked, IsOf, LinksAreFed, StreamsAreFed}
+use Rattle.transcript_law.specs.FeedingRows.{GoesOn, down, feeding, has_one, has_streams, one_node, owning, streaming, streaming_both, two_nodes, up}
 use Rattle.node_world.specs.Worlds.{is_up}
 use Rattle.vb_calls.specs.Following.{is_follower}
 use Rattle.vb_calls.specs.State.{new_vb}
@@ -29,7 +30,7 @@ module _ (ask : StreamAsk) where
     number = λ l x is. let o = only up (has_one Role.Replica) l x is in subst (λ (y : PlainLink). link_number y ≡ l) o.0 o.1;
     follows = λ l x is.
         let o = only up (has_one Role.Replica) l x is in
-        subst (λ (y : PlainLink). (vb : Plain) × (vb_in ((two_nodes up (has_one Role.Replica) (link ∷ [])).nodes (consumer_node y)) y.consumer.dialed.vb ≡ Some vb) × (is_follower vb.role ≡ true)) o.0 (new_vb 1 Role.Replica 5, refl, refl);
+        subst (λ (y : PlainLink). (vb : Plain) × (vb_in ((two_nodes up (has_one Role.Replica) (link ∷ [])).nodes (consumer_node y)) y.consumer.dialed.vb ≡ Some vb) × FollowsOrOwns vb.role y) o.0 (new_vb 1 Role.Replica 5, refl, inl (refl, λ e. cc));
     runs = λ l x is.
         let o = only up (has_one Role.Replica) l x is in
         subst (λ (y : PlainLink). (is_up ((two_nodes up (has_one Role.Replica) (link ∷ [])).nodes (consumer_node y)) ≡ true) × (is_up ((two_nodes up (has_one Role.Replica) (link ∷ [])).nodes (producer_node y)) ≡ true)) o.0 (refl, refl);
@@ -53,13 +54,49 @@ module _ (ask : StreamAsk) where
   role_is said f =
       let x = f.follows 1 link refl in
       let same : Some (new_vb 1 said 5) ≡ Some x.0 = x.1 in
-      let is : new_vb 1 said 5 ≡ x.0 = cc in ap (λ (vb : Plain). is_follower vb.role) is ∙ x.2
+      let is : new_vb 1 said 5 ≡ x.0 = cc in ap (λ (vb : Plain). is_follower vb.role) is ∙ ⊎_elim (λ y. y.0) (λ y. let z : ◌≡◌ {A = Option TakeStep} None (Some TakeStep.Own) = y.1 in cc) x.2
 
   pub active : LinksAreFed (two_nodes up (has_one Role.Active) (link ∷ [])) → ⊥
   active f = let e : false ≡ true = role_is Role.Active f in cc
 
   pub dead : LinksAreFed (two_nodes up (has_one Role.Dead) (link ∷ [])) → ⊥
   dead f = let e : false ≡ true = role_is Role.Dead f in cc
+
+  -- one that took its branch over by the link follows nobody
+  abbrev heir : PlainLink
+  heir = owning 1 ask
+
+  only_heir : (said : Role) (l : ℕ) (x : PlainLink) → IsLinked (two_nodes up (has_one said) (heir ∷ [])) l x → (heir ≡ x) × (1 ≡ l)
+  only_heir said l x is = by (1 == l) refl is
+    where
+      by : (b : Bool) → (1 == l) ≡ b → (if b then Some heir else None) ≡ Some x → (heir ≡ x) × (1 ≡ l)
+      by true e f = (cc, eqb-true 1 l e)
+      by false e f = cc
+
+  owned_as : (said : Role) → is_follower said ≡ false → LinksAreFed (two_nodes up (has_one said) (heir ∷ []))
+  owned_as said feeds = record {
+    number = λ l x is. let o = only_heir said l x is in subst (λ (y : PlainLink). link_number y ≡ l) o.0 o.1;
+    follows = λ l x is.
+        let o = only_heir said l x is in
+        subst (λ (y : PlainLink). (vb : Plain) × (vb_in ((two_nodes up (has_one said) (heir ∷ [])).nodes (consumer_node y)) y.consumer.dialed.vb ≡ Some vb) × FollowsOrOwns vb.role y) o.0 (new_vb 1 said 5, refl, inr (feeds, refl));
+    runs = λ l x is.
+        let o = only_heir said l x is in
+        subst (λ (y : PlainLink). (is_up ((two_nodes up (has_one said) (heir ∷ [])).nodes (consumer_node y)) ≡ true) × (is_up ((two_nodes up (has_one said) (heir ∷ [])).nodes (producer_node y)) ≡ true)) o.0 (refl, refl);
+    apart = λ l k x y is has e f. sym (only_heir said l x is).1 ∙ (only_heir said k y has).1;
+  }
+
+  pub owner : LinksAreFed (two_nodes up (has_one Role.Active) (heir ∷ []))
+  owner = owned_as Role.Active refl
+
+  pub gone_on : LinksAreFed (two_nodes up (has_one Role.Dead) (heir ∷ []))
+  gone_on = owned_as Role.Dead refl
+
+  pub owns_none : LinksAreFed (two_nodes up (has_one Role.Replica) (heir ∷ [])) → ⊥
+  owns_none f =
+      let x = f.follows 1 heir refl in
+      let same : Some (new_vb 1 Role.Replica 5) ≡ Some x.0 = x.1 in
+      let is : new_vb 1 Role.Replica 5 ≡ x.0 = cc in
+      ⊎_elim (λ y. y.1 refl) (λ y. let z : true ≡ false = ap (λ (vb : Plain). is_follower vb.role) is ∙ y.0 in cc) x.2
 
   pub twice : LinksAreFed (two_nodes up (has_one Role.Replica) (link ∷ feeding 2 ask ∷ [])) → ⊥
   twice f = let e : ◌≡◌ {A = ℕ} 1 2 = f.apart 1 2 link (feeding 2 ask) refl refl refl refl in omega arith

@@ -21,10 +21,11 @@ use Rattle.script_text.specs.declared.verb.LinkVerb.{LinkVerb}
 use Rattle.script_text.specs.declared.verb.LinkVerb.TheVariants as link_verb
 use Rattle.transcript_law.specs.LinesTold.{LastLine}
 use Rattle.transcript_law.proofs.lines.Rises.{made_here}
-use Rattle.transcript_law.proofs.lines.Takeovers.{none_known}
+use Rattle.transcript_law.proofs.lines.Takeovers.{front_follows, none_known}
 use Rattle.transcript_law.proofs.rows.Groups.{are_plain}
 use Rattle.transcript_law.proofs.verbs.Handing.{no_rise, plain_all}
 use Rattle.transcript_law.specs.Chronicles.{is_rise}
+use Rattle.transcript_law.specs.Takeovers.{AllFollow}
 
 infixr 2 ◌▹◌
 -- a pair
@@ -176,9 +177,12 @@ quiet_show : (shown : List Event) → is_quiet (verb.AtVb 1 0 vb_verb.Show) (sho
 quiet_show [] = refl
 quiet_show (line ∷ lines) = refl
 
--- no link is dialed for a takeover
+-- its link follows, and none is dialed for a takeover
+follow_two : AllFollow two_followed
+follow_two = (tt, (tt, (tt, (tt, (tt, (tt, (tt, (refl, (tt, (tt, (tt, (tt, (tt, tt)))))))))))))
+
 plain_in : (k : ℕ) (told : List Group) (asked : Verb) (lines : List Event) → are_plain (at_line (behind k told) (suc k)) asked lines ≡ true
-plain_in k told asked lines = plain_all (at_line (behind k told) (suc k)) asked lines (none_known (take k two_followed) (take k told))
+plain_in k told asked lines = plain_all (at_line (behind k told) (suc k)) asked lines (none_known (take k two_followed) (take k told) (front_follows k two_followed follow_two))
 
 from_asked : (asked adopted sent got shown : List Event) → frames_in_lines sent < 9 → none_stored (drop 8 (followed_groups asked adopted sent got shown)) ≡ true → (is_unclosed asked ≡ true) × (is_unclosed adopted ≡ true) × (is_unclosed sent ≡ true) × (is_unclosed got ≡ true) × (is_unclosed shown ≡ true) → (list_any is_rollback adopted ≡ true → ⊥) → (list_any is_rollback got ≡ true → ⊥) → StaysSo (followed_groups asked adopted sent got shown) → AskedSo asked adopted sent got shown → AreTold before_asked (drop 8 two_followed) (drop 8 (followed_groups asked adopted sent got shown))
     → AreFired before_asked (drop 8 two_followed) (drop 8 (followed_groups asked adopted sent got shown)) → (let told = followed_groups asked adopted sent got shown in

@@ -169,8 +169,8 @@ same_silent k l e silent n c = ap (λ (t : ClientsKnown). (t n c).asking.bytes) 
 verb_silent : (before r : Chronicle) (line : Verb) (lines : List Event) (said : Answer) → Silent r.clients_at → Silent (after_verb before r line lines said).clients_at
 verb_silent before r (verb.AtVb n v (vb_verb.MakeActive uuid)) lines said silent = same_silent _ _ (made_same r n v Role.Active said) silent
 verb_silent before r (verb.AtVb n v vb_verb.MakeReplica) lines said silent = same_silent _ _ (made_same r n v Role.Replica said) silent
-verb_silent before r (verb.Link l m n v buffer) lines answer.Ok silent = silent
-verb_silent before r (verb.Link l m n v buffer) lines other silent = silent
+verb_silent before r (verb.Link l m n v buffer takeover) lines answer.Ok silent = silent
+verb_silent before r (verb.Link l m n v buffer takeover) lines other silent = silent
 verb_silent before r (verb.AtLink l (link_verb.Down wanted)) lines said silent = same_silent _ _ (moved_same r (heir_in lines) (rollback_of before (before.dial_of l) (before.point_of l)) lines said) silent
 verb_silent before r (verb.AtVb n v (vb_verb.Promote uuid)) lines said silent = same_silent _ _ (append_same r n v (appending (state_of r n v Role.Active)) said) silent
 verb_silent before r (verb.AtVb n v vb_verb.Follow) lines said silent = same_silent _ _ (append_same r n v (appending (state_of r n v Role.Replica)) said) silent

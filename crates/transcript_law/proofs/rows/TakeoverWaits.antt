@@ -31,7 +31,7 @@ pub marked_turned : MayStand dead_here (marker_line 2 3) → ⊥
 marked_turned l = ⊎_elim (λ k. let e : true ≡ false = k.steady in cc) (λ y. let e : true ≡ false = y.steady in cc) (l own_dial (refl, refl))
 
 -- by its stream too
-as_fed : (r : Chronicle) (h : Granted) (P : Dial → Granted → Type 0) → r.dial_of 1 ≡ Some own_dial → r.stream_of (StreamName.Link 1) 0 ≡ Some h → P own_dial h → (d : Dial) (g : Granted) → r.dial_of 1 ≡ Some d → r.stream_of (StreamName.Link 1) d.vb ≡ Some g → P d g
+pub as_fed : (r : Chronicle) (h : Granted) (P : Dial → Granted → Type 0) → r.dial_of 1 ≡ Some own_dial → r.stream_of (StreamName.Link 1) 0 ≡ Some h → P own_dial h → (d : Dial) (g : Granted) → r.dial_of 1 ≡ Some d → r.stream_of (StreamName.Link 1) d.vb ≡ Some g → P d g
 as_fed r h P dialed stream p d g e f =
     let same = own_dial_of r d dialed e in
     let there : r.stream_of (StreamName.Link 1) 0 ≡ Some g = subst (λ (x : Dial). r.stream_of (StreamName.Link 1) x.vb ≡ Some g) (sym same) f in
@@ -39,7 +39,7 @@ as_fed r h P dialed stream p d g e f =
     subst (λ x. P x g) same (subst (P own_dial) one p)
 
 pub ended : MayStand moved_heard (finishes 0)
-ended d g t has = as_fed moved_heard _ (λ x y. EndsHanded moved_heard 1 x y 0) refl refl (inl (refl, record { handed = record { steady = refl; stated = refl; dead = refl }; answered = record { has = refl; marks = refl; items = refl; moved = omega arith } })) d g t.0 has
+ended d g t has = as_fed moved_heard _ (λ x y. EndsHanded moved_heard 1 x y 0) refl refl (inl (refl, record { handed = record { steady = refl; stated = refl; dead = refl }; answered = record { has = inl refl; told = λ e. let z : ◌≡◌ {A = Obeyed} Answered Put = e in cc; marks = refl; items = refl; moved = omega arith } })) d g t.0 has
 
 zero_two : ◌≡◌ {A = ℕ} 0 2 → ⊥
 zero_two e = omega (arith, e)
@@ -48,7 +48,7 @@ two_zero : ◌≡◌ {A = ℕ} 2 0 → ⊥
 two_zero e = omega (arith, e)
 
 pub ended_early : MayStand told_active (finishes 0) → ⊥
-ended_early l = ⊎_elim (λ x. let e : ◌≡◌ {A = Option (Option Role)} (Some (Some Role.Pending)) (Some (Some Role.Active)) = x.1.answered.has in cc) (λ x. zero_two x.0) (l own_dial _ (refl, refl) refl)
+ended_early l = ⊎_elim (λ x. x.1.answered.told refl) (λ x. zero_two x.0) (l own_dial _ (refl, refl) refl)
 
 pub ended_unheard : MayStand moved (finishes 0) → ⊥
 ended_unheard l = ⊎_elim (λ x. let e : 24 ≤ 0 = x.1.answered.moved in omega (arith, e)) (λ x. zero_two x.0) (l own_dial _ (refl, refl) refl)

@@ -21,7 +21,7 @@ client_asked w r number n c ClientVerb.Hang ranged a = tt
 -- each line, by what it names
 pub line_asked : (w : PlainWorld) (r : Chronicle) (number : ℕ) (line : Verb) → IsRanged w → Agrees w r → (let x = (verb_step w number line).1 in TellsAsAsked line x.events x.answer)
 line_asked w r number (Verb.Node n) ranged a = tt
-line_asked w r number (Verb.Link l m n v buffer) ranged a = tt
+line_asked w r number (Verb.Link l m n v buffer takeover) ranged a = tt
 line_asked w r number (Verb.AtNode n what) ranged a = node_asked w n what
 line_asked w r number (Verb.AtVb n v what) ranged a = vb_asked w n v ranged what
 line_asked w r number (Verb.AtClient n c what) ranged a = client_asked w r number n c what ranged a

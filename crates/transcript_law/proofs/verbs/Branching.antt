@@ -139,9 +139,9 @@ module _ (w : PlainWorld) (r : Chronicle) (c : Cluster) (n v uuid : ℕ) (role :
         (told_disk q n v there_now n v (c'.nodes (seat n v)) (Some vb) (λ e. cc) here)
         (λ m p o. told_disk q n v there_now m p (c'.nodes (seat m p)) (vb_of w m p) (λ e. o) (there m p o))
 
-    made_links : ((k : ℕ) → q.dial_of k ≡ r.dial_of k) → ((k p : ℕ) → q.stream_of (StreamName.Link k) p ≡ r.stream_of (StreamName.Link k) p) → ((k : ℕ) → q.point_of k ≡ r.point_of k)
+    made_links : ((k : ℕ) → q.dial_of k ≡ r.dial_of k) → ((k p : ℕ) → q.stream_of (StreamName.Link k) p ≡ r.stream_of (StreamName.Link k) p) → ((k : ℕ) → q.stated_of k ≡ r.stated_of k) → ((k : ℕ) → q.point_of k ≡ r.point_of k)
         → (x : PlainLink) → IsLink x w.links → LinkAgrees world told c' x [] []
-    made_links dials streams points x i = new_links w world r told c c' n v x [] [] not_made changed.there dials streams points nodes (a.links x i)
+    made_links dials streams states points x i = new_links w world r told c c' n v x [] [] not_made changed.there dials streams states points nodes (a.links x i)
 
     -- clients have no open stream of it
     made_clients : ((m d : ℕ) → q.clients_at m d ≡ with_clients_of r.clients_at n (past_turn v (r.held n v)) m d) → ((m p : ℕ) → (m ≡ n → p ≡ v → ⊥) → AgreesAt q m p (c'.nodes (seat m p)) (vb_of w m p)) → ((u : ℕ) → IsTold r.tree u → hist q.tree u ≡ hist r.tree u) → Later r q
@@ -256,7 +256,7 @@ module _ (starts : StartsSound) (w : PlainWorld) (r : Chronicle) (c : Cluster) (
             (λ m p o. role_there r n v Role.Replica m p (c.nodes (seat m p)) (vb_of w m p) o (writers_rest r n v Role.Replica refl) (a.vbs m p));
         disks = new_disks w r c n v 0 Role.Replica node a known runs none small w.uuids q c (λ m p. refl) (λ m. refl) rows (λ j ne. refl) (λ j. refl);
         branches = a.branches;
-        links = made_links w r c n v 0 Role.Replica node a known runs none small w.uuids q c (λ m p. refl) (λ m. refl) rows (λ j ne. refl) (λ j. refl) (λ k. refl) (λ k p. refl) (λ k. refl);
+        links = made_links w r c n v 0 Role.Replica node a known runs none small w.uuids q c (λ m p. refl) (λ m. refl) rows (λ j ne. refl) (λ j. refl) (λ k. refl) (λ k p. refl) (λ k. refl) (λ k. refl);
         differ = a.differ;
         clients = made_clients w r c n v 0 Role.Replica node a known runs none small w.uuids q c (λ m p. refl) (λ m. refl) rows (λ j ne. refl) (λ j. refl) (λ m d. refl)
             (λ m p o. role_there r n v Role.Replica m p (c.nodes (seat m p)) (vb_of w m p) o (writers_rest r n v Role.Replica refl) (a.vbs m p)) (λ u t. refl) (later_same _ _ refl refl);
@@ -392,7 +392,7 @@ module _ (starts : StartsSound) (w : PlainWorld) (r : Chronicle) (c : Cluster) (
       used = λ u e ne. let p = unused u uuid w.uuids e in ap (λ t. if t then Some (made m uuid) else branch c.tree u) (ne_eqb uuid u p.1) ∙ a.used u p.0 ne;
       fresh = λ u e. let p = unused u uuid w.uuids e in (p.1, a.fresh u p.0);
     };
-    links = made_links w r c n v uuid Role.Active node a known runs none small uuids after risen (λ j p. refl) (λ j. refl) rows others same_disks (λ j. refl) (λ j p. refl) (λ j. refl);
+    links = made_links w r c n v uuid Role.Active node a known runs none small uuids after risen (λ j p. refl) (λ j. refl) rows others same_disks (λ j. refl) (λ j p. refl) (λ j. refl) (λ j. refl);
     differ = a.differ;
     clients = made_clients w r c n v uuid Role.Active node a known runs none small uuids after risen (λ j p. refl) (λ j. refl) rows others same_disks (λ j p. refl) active_there
         (λ u t. hist_there told_branch r.tree u (λ e. new_untold uuid r.tree (a.fresh uuid unused_yet) (subst (IsTold r.tree) (sym e) t))) (later_same _ _ refl refl);

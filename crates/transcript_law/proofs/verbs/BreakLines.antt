@@ -1,7 +1,7 @@
 -- each line of a script closes a client's connection as it may
 use Rattle.std.specs.Prelude.{◌≡◌, ◌∷◌, ◌++◌, ◌==◌, ◌||◌, not, if◌then◌else◌}
-use Rattle.std.specs.List.{list_any}
-use Rattle.transcript_law.proofs.Words.{ℕ, Bool, true, false, List, [], map, refl, ap, sym, ◌∙◌, subst, and_parts, eqb-true, append_assoc, option_map, Option, Some, None, is_some, Cause, Change, Role, AdminCall, AdminResult, Chronicle, Event, Frame, FrameFault, Verb, VbVerb, NodeVerb, LinkVerb, ClientVerb, PlainLink, PlainNode, PlainWorld, Outcome, States, Told, VbAnswer, VbCall, VbReply, after, after_job, admin_call, admin_result, branch_lines, call_at, called_at, consumer_node, cut_off, first_cause, left_of, left_open, link_number, link_outcome, moved_len, no_node, node_outcome, on_link, on_node, own_link, peer_of, producer_node, promote_causes, refusal, refused_or, replica_at, replica_causes, role_outcome, row_at, take, turn_causes, turned_after, turned_if, up_at, vb_at, vb_causes, verb_step, with_ended, with_link, with_node_at, with_states}
+use Rattle.std.specs.List.{flat_map, list_any}
+use Rattle.transcript_law.proofs.Words.{ℕ, Bool, true, false, List, [], map, refl, ap, sym, ◌∙◌, subst, and_parts, eqb-true, append_assoc, option_map, Option, Some, None, is_some, Cause, Change, Role, AdminCall, AdminResult, Chronicle, Event, Frame, FrameFault, Verb, VbVerb, NodeVerb, LinkVerb, ClientVerb, PlainLink, PlainNode, PlainWorld, Outcome, States, Told, VbAnswer, VbCall, VbReply, after, after_job, admin_call, admin_result, branch_lines, call_at, called_at, consumer_node, cut_off, first_cause, left_of, left_open, link_number, link_outcome, moved_len, no_node, node_outcome, on_link, on_node, own_link, peer_of, producer_node, promote_causes, pump_at, refusal, refused_or, replica_at, replica_causes, role_outcome, row_at, take, turn_causes, turned_after, turned_if, up_at, vb_at, vb_causes, verb_step, with_ended, with_link, with_node_at, with_states}
 use Rattle.client_session.specs.Answers.{fault_lines}
 unfoldable use Rattle.client_session.specs.Answers.{reply_line}
 use Rattle.dcp_producer.specs.declared.desk.Desk.{Desk}
@@ -10,15 +10,16 @@ use Rattle.mcbp_frame.specs.{Cutting.{front_fault}, Frames.{faulty_head}, Spelli
 use Rattle.mcbp_frame.specs.declared.frame.FaultyHead.{FaultyHead}
 use Rattle.mcbp_kv.specs.{Answers.{bare_answer}, Replies.{reply_frame}}
 use Rattle.node_core.specs.{Admin.{admin_job, admin_refused, promote_result, role_at, role_noted, role_result}, Calls.{own_lines_if}, Clients.{Handling, PlainClient, client_ended, client_posted}, Dials.{DialResult, acknowledged_line, dial_due, untold}, Flushing.{FlushResult, flush_at, flush_result, settled_by, settled_result}, Peers.{peer_answered, peer_frames, peer_heard}}
-use Rattle.node_core.specs.Peers.{PeerResult}
-use Rattle.node_world.specs.{Arms.{fired_by, placed, under_arm}, Cuts.{closed_at}, Power.{after_broken, after_fire, disk_end, down_lines, is_broken_answer, with_arm, with_broken}, Turns.{posted_at as posted_at_node, posted_in, role_called}, World.{down_in, down_outcome, down_step}, Worlds.{arm_in, node_if, with_node_if}}
+use Rattle.dcp_producer.specs.declared.yields.Yielded.{Yielded}
+use Rattle.node_core.specs.{GivingUp.{dead_line, peer_gives_up, resolved_in}, Peers.{PeerResult}}
+use Rattle.node_world.specs.{Arms.{fired_by, placed, under_arm}, Cuts.{closed_at}, Power.{after_broken, after_fire, disk_end, down_lines, is_broken_answer, with_arm, with_broken}, Turns.{posted_at as posted_at_node, posted_in, role_called}, Pumps.{gives_at, with_given, with_gone}, World.{down_in, down_outcome, down_step, pump_outcome, pump_step}, Worlds.{arm_in, node_if, with_node_if}}
 use Rattle.node_world.specs.declared.arm.Fired.{Fired}
 use Rattle.node_world.specs.declared.arm.Fired.TheVariants as fired
-use Rattle.node_world.specs.{Dues.{due_at, due_in, due_of, is_counted}, Links.{dial_of, frame_posted, frame_up, frames_up, untold_peer}, Nodes.{all_posted, awaiting, chain_causes, chain_line, chain_made, flush_line, posted_if, posted_to, save_line, tick_line, vb_made, with_clients_ended, with_kept, with_posts}}
+use Rattle.node_world.specs.{Dues.{due_at, due_in, due_of, is_counted}, Links.{dial_of, frame_posted, frame_up, frames_up, untold_peer}, Nodes.{all_posted, awaiting, chain_causes, chain_line, chain_made, done, flush_line, posted_if, posted_to, save_line, tick_line, vb_made, with_clients_ended, with_kept, with_posts}}
 use Rattle.node_world.specs.declared.script_node.TheConstants.{MAX_CLIENTS}
 use Rattle.transcript_law.proofs.invariant.{Agreement.{Agrees, ClientAgrees}, Ranged.{IsRanged, NodeRangedIf}}
-use Rattle.transcript_law.proofs.lines.{Answering.{Tells, peer_so}, Broken.{Broke, So, bytes_break, left_asked, none_closes, posted_so}, Calm.{AnyAsk, AnyKind, any_job, asks_any, due_keeps}, DialTold.{down_so}, SessionLines.{IsFor, IsKept, LeftBy, posted_at}}
-use Rattle.transcript_law.proofs.verbs.{NodeLines.{on_link_by, on_node_by}, Tellings.{Are, Tell, flush_steps}}
+use Rattle.transcript_law.proofs.lines.{Answering.{Tells, peer_so}, Broken.{Broke, So, bytes_break, left_asked, none_closes, posted_so}, Calm.{AnyAsk, AnyKind, any_job, asks_any, due_keeps}, DialTold.{down_so}, LinkTold.{pump_so}, SessionLines.{IsFor, IsKept, LeftBy, posted_at}}
+use Rattle.transcript_law.proofs.verbs.{NodeLines.{on_link_by, on_node_by}, Tellings.{Are, Tell, flush_steps}, Unclosed.{cut_unclosed, is_none_closing, log_unclosed, none_unclosed, pull_unclosed, show_unclosed, start_unclosed, stat_unclosed, take_unclosed}, Untaken.{ToldBy}}
 use Rattle.transcript_law.specs.{Breaks.{AllBreak, ClosesAsBroken, is_closing}, LinesTold.{Dial}, Tellings.{TellsOf, are_told, at_link, at_vb, is_none, is_of_end, is_of_pull, is_of_start, may_tell}, Feeding.{client_in}, Questions.{behind_frames}, StreamsTold.{ClientsKnown}}
 use Rattle.vb_calls.proofs.{Conduct.{after_always}, JobConduct.{after_job_always, always_bind_job}}
 use Rattle.vb_calls.specs.{Flushes.{part_job, role_job}, Jobs.{Ended, Job}, Programs.{AnyCall, AnyReply}}
@@ -33,10 +34,10 @@ use Rattle.vb_types.specs.declared.status.Status.TheVariants.{Einval}
 -- ---- lists of lines
 
 -- none of them tells that a connection closed
-abbrev NoneCloses : List Event → Type 0
+abbrev pub NoneCloses : List Event → Type 0
 NoneCloses lines = list_any is_closing lines ≡ false
 
-none_more : (xs ys : List Event) → NoneCloses xs → NoneCloses ys → NoneCloses (xs ++ ys)
+pub none_more : (xs ys : List Event) → NoneCloses xs → NoneCloses ys → NoneCloses (xs ++ ys)
 none_more [] ys a b = b
 none_more (x ∷ xs) ys a b = by (is_closing x) a (λ c. none_more xs ys c b)
   where
@@ -80,13 +81,9 @@ init_is : (n c : ℕ) (head : Option FaultyHead) → fault_lines n c head ≡ fa
 init_is n c None = refl
 init_is n c (Some head) = refl
 
--- a line tells of no connection that closed
-abbrev is_none_closing : Event → Bool
-is_none_closing line = not (is_closing line)
-
 module _ (clients : ClientsKnown) where
   -- each connection that these lines tell closed did so by its bytes
-  abbrev Break : List Event → Type 0
+  abbrev pub Break : List Event → Type 0
   Break lines = (before : Option Event) → AllBreak clients before lines
 
   more : (xs ys : List Event) (before : Option Event) → AllBreak clients before xs → Break ys → AllBreak clients before (xs ++ ys)
@@ -95,10 +92,10 @@ module _ (clients : ClientsKnown) where
   more (Event.NodeStopped n ∷ xs) ys before a b = tt
   more (x ∷ xs) ys before a b = more xs ys (Some x) a b
 
-  break_more : (xs ys : List Event) → Break xs → Break ys → Break (xs ++ ys)
+  pub break_more : (xs ys : List Event) → Break xs → Break ys → Break (xs ++ ys)
   break_more xs ys a b before = more xs ys before (a before) b
 
-  none_break : (lines : List Event) → NoneCloses lines → Break lines
+  pub none_break : (lines : List Event) → NoneCloses lines → Break lines
   none_break [] none before = tt
   none_break (Event.Closed n c ∷ lines) none before = cc
   none_break (Event.NodeStopped n ∷ lines) none before = tt
@@ -107,11 +104,11 @@ module _ (clients : ClientsKnown) where
   -- ---- a connection
 
   -- it keeps, behind its frames, the bytes that the client sent behind what was answered
-  abbrev GoodIf : ℕ → ℕ → Option PlainClient → Type 0
+  abbrev pub GoodIf : ℕ → ℕ → Option PlainClient → Type 0
   GoodIf n c None = Unit {0}
   GoodIf n c (Some client) = IsKept n c (Some client) × (left_of client.session.reader ≡ behind_frames (clients n c).asking.bytes)
 
-  abbrev Good : ℕ → PlainNode → Type 0
+  abbrev pub Good : ℕ → PlainNode → Type 0
   Good n node = (c : ℕ) → GoodIf n c (node.clients c)
 
   fault_break : (n c : ℕ) (fault : FrameFault) → front_fault (behind_frames (clients n c).asking.bytes) ≡ Some fault → (head : Option FaultyHead) → faulty_head fault (behind_frames (clients n c).asking.bytes) ≡ head → Break (fault_lines n c head)
@@ -153,7 +150,7 @@ module _ (clients : ClientsKnown) where
       by None g = (λ before. tt, good)
       by (Some client) g = let y = one_posted n c node.clock o client node.vbs g in (y.0, λ d. one d (d == c) refl (left_open (after (client_posted node.clock o client) node.vbs).1.client) y.1)
 
-  posts_break : (n : ℕ) (rs : List Resolved) (node : PlainNode) → Good n node → Break (all_posted rs node).1 × Good n (all_posted rs node).0
+  pub posts_break : (n : ℕ) (rs : List Resolved) (node : PlainNode) → Good n node → Break (all_posted rs node).1 × Good n (all_posted rs node).0
   posts_break n [] node good = (λ before. tt, good)
   posts_break n (o ∷ rs) node good =
       let who : Option ℕ = awaiting node.clients o.waiter MAX_CLIENTS in let one = posted_break n o node who good in let rest = posts_break n rs (posted_to o node who).0 one.1 in
@@ -230,25 +227,25 @@ module _ (clients : ClientsKnown) where
 
   -- ---- a change of role
 
-  abbrev GoodAt : ℕ → Option PlainNode → Type 0
+  abbrev pub GoodAt : ℕ → Option PlainNode → Type 0
   GoodAt n None = Unit {0}
   GoodAt n (Some node) = Good n node
 
-  put_good : (w : PlainWorld) (n m : ℕ) (node : PlainNode) → GoodAt n (w.nodes n) → (n ≡ m → Good n node) → GoodAt n ((with_node_at w m node).nodes n)
+  pub put_good : (w : PlainWorld) (n m : ℕ) (node : PlainNode) → GoodAt n (w.nodes n) → (n ≡ m → Good n node) → GoodAt n ((with_node_at w m node).nodes n)
   put_good w n m node good here = by (n == m) refl
     where
       by : (b : Bool) → (n == m) ≡ b → GoodAt n (if b then Some node else w.nodes n)
       by true e = here (eqb-true n m e)
       by false e = good
 
-  if_good : (w : PlainWorld) (n m : ℕ) (f : PlainNode → PlainNode) → ((node : PlainNode) → Good n node → Good n (f node)) → GoodAt n (w.nodes n) → GoodAt n ((with_node_if m f w).nodes n)
+  pub if_good : (w : PlainWorld) (n m : ℕ) (f : PlainNode → PlainNode) → ((node : PlainNode) → Good n node → Good n (f node)) → GoodAt n (w.nodes n) → GoodAt n ((with_node_if m f w).nodes n)
   if_good w n m f keeps good = by (w.nodes m) refl
     where
       by : (o : Option PlainNode) → w.nodes m ≡ o → GoodAt n ((node_if m f w o).nodes n)
       by None e = good
       by (Some node) e = put_good w n m (f node) good (λ same. keeps node (subst (GoodAt n) (ap w.nodes same ∙ e) good))
 
-  ended_good : (n v : ℕ) (ids : List ℕ) (node : PlainNode) → Good n node → Good n (with_clients_ended v ids node)
+  pub ended_good : (n v : ℕ) (ids : List ℕ) (node : PlainNode) → Good n node → Good n (with_clients_ended v ids node)
   ended_good n v ids node good c = by (node.clients c) (good c)
     where
       by : (o : Option PlainClient) → GoodIf n c o → GoodIf n c (option_map (client_ended v ids) o)
@@ -366,45 +363,41 @@ module _ (clients : ClientsKnown) where
       let posts = posts_break n y.1.resolved (with_states came.0 y.0) good in
       frames_break n fs (frame_up f came) posts.1 (break_more came.1.events (frame_posted f came.1.peer came.0).1.events b (break_more y.1.events (all_posted y.1.resolved (with_states came.0 y.0)).1 (none_break y.1.events none) posts.0))
 
--- ---- tests that pass no such line
+  -- ---- vBuckets that are given up, and frames that are put
 
-none_unclosed : (line : Event) → is_none line ≡ true → is_none_closing line ≡ true
-none_unclosed (Event.Closed m c) e = e
-none_unclosed other e = refl
+  given_good : (n : ℕ) (given : List Yielded) (w : PlainWorld) → GoodAt n (w.nodes n) → GoodAt n ((with_given n given w).nodes n)
+  given_good n [] w good = good
+  given_good n (one ∷ more) w good = given_good n more (with_ended n one.vb one.ended w) (if_good w n n (with_clients_ended one.vb one.ended) (ended_good n one.vb one.ended) good)
 
-take_unclosed : (r : Chronicle) (n v : ℕ) (line : Event) → at_vb r n v VbVerb.Take line ≡ true → is_none_closing line ≡ true
-take_unclosed r n v (Event.Closed m c) e = e
-take_unclosed r n v other e = refl
+  dead_none : (n : ℕ) (given : List Yielded) → NoneCloses (map (dead_line n) given)
+  dead_none n [] = refl
+  dead_none n (one ∷ more) = dead_none n more
 
-stat_unclosed : (r : Chronicle) (n v : ℕ) (line : Event) → at_vb r n v VbVerb.Stat line ≡ true → is_none_closing line ≡ true
-stat_unclosed r n v (Event.Closed m c) e = e
-stat_unclosed r n v other e = refl
+  gave_break : (w : PlainWorld) (frames : ℕ) (link : PlainLink) (o : Option PlainNode) → w.nodes (producer_node link) ≡ o → GoodAt (producer_node link) o → Break (gives_at frames link w o).1.events
+  gave_break w frames link None e good = λ before. tt
+  gave_break w frames link (Some node) e good =
+      let n : ℕ = producer_node link in let came = after (peer_gives_up frames (peer_of link)) node.vbs in
+      let gone : PlainWorld = with_gone link node came.0 came.1.peer w in
+      posted n (with_given n came.1.given gone) (done (map (dead_line n) came.1.given)) (flat_map resolved_in came.1.given) (given_good n came.1.given gone (put_good w n n (with_states node came.0) (subst (GoodAt n) (sym e) good) (λ same. good))) (dead_none n came.1.given)
+    where
+      posted : (n : ℕ) (w3 : PlainWorld) (t : Told) (rs : List Resolved) → GoodAt n (w3.nodes n) → NoneCloses t.events → Break (posted_in n rs (w3, t)).1.events
+      posted n w3 t rs good none = by (w3.nodes n) good
+        where
+          by : (o : Option PlainNode) → GoodAt n o → Break (posted_at_node n rs w3 t o).1.events
+          by None g = none_break t.events none
+          by (Some node) g = break_more t.events (all_posted rs node).1 (none_break t.events none) (posts_break n rs node g).0
 
-log_unclosed : (r : Chronicle) (n v : ℕ) (line : Event) → at_vb r n v VbVerb.Log line ≡ true → is_none_closing line ≡ true
-log_unclosed r n v (Event.Closed m c) e = e
-log_unclosed r n v other e = refl
+  put_break : (w : PlainWorld) (l frames : ℕ) → Break (on_link w l producer_node (pump_at frames)).1.events
+  put_break w l frames = on_link_by (λ o. Break o.1.events) w l producer_node (pump_at frames) (λ before. tt) (λ link found before. tt)
+      (λ link node found known. none_break (pump_at frames link node).1.1.events (none_of (pump_at frames link node).1.1.events (pump_so is_none_closing link.server.desk (λ start end flags. refl) (λ c. refl) (λ reason. refl) (λ told. refl) frames link node refl)))
 
-show_unclosed : (r : Chronicle) (n v : ℕ) (line : Event) → at_vb r n v VbVerb.Show line ≡ true → is_none_closing line ≡ true
-show_unclosed r n v (Event.Closed m c) e = e
-show_unclosed r n v other e = refl
-
-pull_unclosed : (n c : ℕ) (line : Event) → is_of_pull n c line ≡ true → is_none_closing line ≡ true
-pull_unclosed n c (Event.Closed m d) e = e
-pull_unclosed n c other e = refl
-
-pump_unclosed : (dial : Option Dial) (l frames : ℕ) (line : Event) → at_link dial l (LinkVerb.Pump frames) line ≡ true → is_none_closing line ≡ true
-pump_unclosed None l frames line e = none_unclosed line e
-pump_unclosed (Some dial) l frames (Event.Closed m c) e = e
-pump_unclosed (Some dial) l frames other e = refl
-
-cut_unclosed : (dial : Option Dial) (l : ℕ) (line : Event) → at_link dial l LinkVerb.Cut line ≡ true → is_none_closing line ≡ true
-cut_unclosed None l line e = none_unclosed line e
-cut_unclosed (Some dial) l (Event.Closed m c) e = e
-cut_unclosed (Some dial) l other e = refl
-
-start_unclosed : (n : ℕ) (line : Event) → is_of_start n line ≡ true → is_none_closing line ≡ true
-start_unclosed n (Event.Closed m c) e = e
-start_unclosed n other e = refl
+  pump_break : (w : PlainWorld) → ((n : ℕ) → GoodAt n (w.nodes n)) → (l frames : ℕ) → Break (pump_step w l frames).1.events
+  pump_break w good l frames = by (row_at link_number l w.links)
+    where
+      by : (o : Option PlainLink) → Break (pump_outcome w l frames o).1.events
+      by None = λ before. tt
+      by (Some link) = let gave = gives_at frames link w (w.nodes (producer_node link)) in
+          break_more gave.1.events (on_link gave.0 l producer_node (pump_at frames)).1.events (gave_break w frames link (w.nodes (producer_node link)) refl (good (producer_node link))) (put_break gave.0 l frames)
 
 -- ---- each line
 
@@ -426,7 +419,7 @@ module _ (w : PlainWorld) (r : Chronicle) (ranged : IsRanged w) (a : Agrees w r)
   up_break l wanted = on_link_by (λ o. Break r.clients_at o.1.events) w l producer_node (up_at wanted) (λ before. tt) (λ link found before. tt) (λ link node found known. let piece : List ℕ = take (moved_len wanted link.up) link.up in
       frames_break r.clients_at (producer_node link) (peer_frames piece (peer_of link)) (node, untold_peer (peer_heard piece (peer_of link))) (good_of w r (producer_node link) node ranged a known) (λ before. tt))
 
-  good_at : (n : ℕ) → GoodAt r.clients_at n (w.nodes n)
+  pub good_at : (n : ℕ) → GoodAt r.clients_at n (w.nodes n)
   good_at n = by (w.nodes n) refl
     where
       by : (o : Option PlainNode) → w.nodes n ≡ o → GoodAt r.clients_at n o
@@ -459,13 +452,13 @@ module _ (w : PlainWorld) (r : Chronicle) (ranged : IsRanged w) (a : Agrees w r)
   vb_breaks number n v VbVerb.Log t = unclosed (Verb.AtVb n v VbVerb.Log) (log_unclosed r n v) (verb_step w number (Verb.AtVb n v VbVerb.Log)).1.events t
   vb_breaks number n v VbVerb.Show t = unclosed (Verb.AtVb n v VbVerb.Show) (show_unclosed r n v) (verb_step w number (Verb.AtVb n v VbVerb.Show)).1.events t
 
-  pub line_breaks : (number : ℕ) (line : Verb) → (let y = (verb_step w number line).1 in TellsOf r line y.events → ClosesAsBroken r line y.events)
+  pub line_breaks : (number : ℕ) (line : Verb) → (let y = (verb_step w number line).1 in ToldBy r line y.events → ClosesAsBroken r line y.events)
   line_breaks number (Verb.AtClient n c (ClientVerb.Bytes bytes)) t = bytes_break w r n c bytes ranged a
   line_breaks number (Verb.AtClient n c ClientVerb.Open) t = unclosed (Verb.AtClient n c ClientVerb.Open) none_unclosed (verb_step w number (Verb.AtClient n c ClientVerb.Open)).1.events t
   line_breaks number (Verb.AtClient n c ClientVerb.Hang) t = unclosed (Verb.AtClient n c ClientVerb.Hang) none_unclosed (verb_step w number (Verb.AtClient n c ClientVerb.Hang)).1.events t
   line_breaks number (Verb.AtClient n c (ClientVerb.Pull wanted)) t = unclosed (Verb.AtClient n c (ClientVerb.Pull wanted)) (pull_unclosed n c) (verb_step w number (Verb.AtClient n c (ClientVerb.Pull wanted))).1.events t
   line_breaks number (Verb.Node n) t = unclosed (Verb.Node n) none_unclosed (verb_step w number (Verb.Node n)).1.events t
-  line_breaks number (Verb.Link l m n v buffer) t = unclosed (Verb.Link l m n v buffer) none_unclosed (verb_step w number (Verb.Link l m n v buffer)).1.events t
+  line_breaks number (Verb.Link l m n v buffer takeover) t = unclosed (Verb.Link l m n v buffer takeover) none_unclosed (verb_step w number (Verb.Link l m n v buffer takeover)).1.events t
   line_breaks number (Verb.AtNode n (NodeVerb.Clock nanos)) t = unclosed (Verb.AtNode n (NodeVerb.Clock nanos)) none_unclosed (verb_step w number (Verb.AtNode n (NodeVerb.Clock nanos))).1.events t
   line_breaks number (Verb.AtNode n (NodeVerb.Stop call out)) t = unclosed (Verb.AtNode n (NodeVerb.Stop call out)) none_unclosed (verb_step w number (Verb.AtNode n (NodeVerb.Stop call out))).1.events t
   line_breaks number (Verb.AtNode n (NodeVerb.Fail call)) t = unclosed (Verb.AtNode n (NodeVerb.Fail call)) none_unclosed (verb_step w number (Verb.AtNode n (NodeVerb.Fail call))).1.events t
@@ -474,5 +467,5 @@ module _ (w : PlainWorld) (r : Chronicle) (ranged : IsRanged w) (a : Agrees w r)
   line_breaks number (Verb.AtVb n v what) t = vb_breaks number n v what t
   line_breaks number (Verb.AtLink l (LinkVerb.Up wanted)) t = up_break l wanted None
   line_breaks number (Verb.AtLink l (LinkVerb.Down wanted)) t = down_break r.clients_at w l wanted None
-  line_breaks number (Verb.AtLink l (LinkVerb.Pump wanted)) t = unclosed (Verb.AtLink l (LinkVerb.Pump wanted)) (pump_unclosed (r.dial_of l) l wanted) (verb_step w number (Verb.AtLink l (LinkVerb.Pump wanted))).1.events t
+  line_breaks number (Verb.AtLink l (LinkVerb.Pump wanted)) t = pump_break r.clients_at w good_at l wanted None
   line_breaks number (Verb.AtLink l LinkVerb.Cut) t = unclosed (Verb.AtLink l LinkVerb.Cut) (cut_unclosed (r.dial_of l) l) (verb_step w number (Verb.AtLink l LinkVerb.Cut)).1.events t

@@ -10,7 +10,7 @@ use Rattle.{node_world.specs.Arms.{no_arm as unarmed}, node_world.specs.Power.{a
 use Rattle.{vb_calls.specs.Shelves.{Shelf, left_book}, vb_disk.specs.declared.made.Outcome.{Outcome}}
 use Rattle.transcript_law.specs.Chronicles.{after_crash, after_crashed, alone, crashed_disk, known_down, finds, is_dial_at, newest_or, resting, after_ending}
 use Rattle.transcript_law.proofs.{invariant.Agreement.{clock_of, Agrees, AgreesAt, AgreesIn, AwayAt, BookAgrees, DiskIsIf, DownHolds, GoesOn, IsAway, IsLink, LinkAgrees, Power, PowerIsIf, VbIsIf, VbRow, book_in, idle, is_down, is_running, power_of, shelf_of, top, vb_contents, vb_of, vb_row}, disks.ArmedLines.{AreEnds}}
-use Rattle.transcript_law.proofs.{invariant.Carried.{branches_again, kept_same, link_carried, numbers}, disks.Crashed.{Loads, UnmadeIf, Written, are_written, away_late, crash_all, crash_here, crash_sound, crash_there, crash_tree, crashed_away, crashed_disk_is, crashed_rests, crashed_row, logs_fit, stood_end}}
+use Rattle.transcript_law.proofs.{invariant.Carried.{as_far, branches_again, kept_same, link_carried, numbers}, disks.Crashed.{Loads, UnmadeIf, Written, are_written, away_late, crash_all, crash_here, crash_sound, crash_there, crash_tree, crashed_away, crashed_disk_is, crashed_rests, crashed_row, logs_fit, stood_end}}
 use Rattle.transcript_law.proofs.{disks.Disks.{AwayAgrees, power_in}, disks.Downed.{AreDialed, Downed, IsFree, down_closes, down_dialed, down_ends, downed, ends_lawful, none_free, with_known}, invariant.Seats.{seat, seat_one}, invariant.Tables.{id_here, id_there, none_hold}, invariant.Trees.{IdsFit}}
 use Rattle.transcript_law.proofs.invariant.{Carried.{all_there}, Carrying.{same_arms}, ClientsKept.{ConnsKept, OfOthers, clients_gone, goes_same, others_owed, spot_at, spot_same}, Owed.{Fewer, fewer_none, fewer_same}}
 use Rattle.transcript_law.specs.{Feeding.{client_in}, StreamsTold.{ClientsKnown}}
@@ -276,8 +276,8 @@ module _ (w : PlainWorld) (r : Chronicle) (c : Cluster) (n : ℕ) (node : PlainN
       let ne = both_apart x i in
       let away : is_dial_at n (r.dial_of (link_number x)) ≡ false = ap (is_dial_at n) (a.links x i).dialed ∙ apart x i in
       link_carried w w' r r' c c' x [] [] (λ f e. (f, ap (λ o. vb_in o x.consumer.dialed.vb) (there (consumer_node x) ne.1) ∙ e, kept_same f))
-      (ap (λ b. if b then None else r.dial_of (link_number x)) away) (ap (λ b. if b then None else r.stream_of (StreamName.Link (link_number x)) x.consumer.dialed.vb) away) (ap (λ b. if b then None else r.point_of (link_number x)) away) (others (consumer_node x) x.consumer.dialed.vb ne.1).0
-      (λ p k s e active opens has. (p, ap (λ o. vb_in o x.consumer.dialed.vb) (there (producer_node x) ne.0) ∙ e, active, opens, ap (λ (m : Member). m.br) (others (producer_node x) x.consumer.dialed.vb ne.0).0)) (a.links x i)
+      (ap (λ b. if b then None else r.dial_of (link_number x)) away) (ap (λ b. if b then None else r.stream_of (StreamName.Link (link_number x)) x.consumer.dialed.vb) away) (ap (λ b. if b then None else r.stated_of (link_number x)) away) (ap (λ b. if b then None else r.point_of (link_number x)) away) (others (consumer_node x) x.consumer.dialed.vb ne.1).0
+      (λ p k s e feeds opens has. let far = (others (producer_node x) x.consumer.dialed.vb ne.0).0 in (p, ap (λ o. vb_in o x.consumer.dialed.vb) (there (producer_node x) ne.0) ∙ e, refl, opens, ap (λ (m : Member). m.br) far, λ dead. ap (λ (m : Member). m.position) far, as_far (ap (λ (m : Member). m.position) far))) (a.links x i)
 
   powers_are : (m : ℕ) → PowerIsIf (r'.arm_at m) (power_of w' m)
   powers_are = by_node (λ m. PowerIsIf (r'.arm_at m) (power_of w' m)) n

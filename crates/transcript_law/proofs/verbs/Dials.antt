@@ -12,7 +12,7 @@ use Rattle.transcript_law.proofs.invariant.LinkRows.{is_link_more, differ_more}
 use Rattle.transcript_law.proofs.invariant.Carried.{fed_same, kept_same, agrees_carried, stays_same, link_carried}
 use Rattle.{node_world.specs.Worlds.{is_off}, transcript_law.proofs.{invariant.Agreement.{EndsUp}, invariant.Resting.{off_as_power, runs_as_power}}, dcp_consumer.specs.Dialing.{numbered, stream_opaque, flagged}, dcp_consumer.specs.declared.handshake.Dialed.{Dialed}, transcript_law.proofs.links.Firsts.{asks_from, firsts, request_frames}}
 use Rattle.transcript_law.proofs.links.Requests.{dials_waiting, first_asked, opaque_small, opaque_some, requests_readable}
-use Rattle.transcript_law.proofs.links.Verdicts.{asks_in_range}
+use Rattle.transcript_law.proofs.links.Verdicts.{asks_in_range, flags_in_range}
 use Rattle.transcript_law.proofs.invariant.{Carried.{all_there}, ClientsKept.{all_kept, clients_kept, every_owed}, LinkFeeds.{link_feeds}, LinkRows.{found_is_link}}
 use Rattle.transcript_law.specs.Feeding.{HasFed, HasOpen}
 use Rattle.transcript_law.proofs.invariant.Owing.{later_same}
@@ -51,14 +51,14 @@ free_links (y ∷ ys) l n v e x i =
     (eqb-false (link_number y) l here.0, λ f g. never (sym (ap (λ b. b && y.consumer.dialed.vb == v) (eq-eqb (consumer_node y) n f) ∙ eq-eqb y.consumer.dialed.vb v g) ∙ here.1)))
     (λ j. free_links ys l n v both.1 x j) i
 
-module _ (w : PlainWorld) (r : Chronicle) (line l m n v buffer : ℕ) (small : (n < 16) × (v < 1024) × (buffer < 2 ^ 32)) (number : l < 1000) (made : is_some (w.nodes m) ≡ true) (up : (is_off (w.nodes m) ≡ false) × (is_off (w.nodes n) ≡ false)) (c : Cluster) (a : AgreesIn idle w r c) (fv : Plain) (ask : StreamAsk)
+module _ (w : PlainWorld) (r : Chronicle) (line l m n v buffer : ℕ) (takeover : Bool) (small : (n < 16) × (v < 1024) × (buffer < 2 ^ 32)) (number : l < 1000) (made : is_some (w.nodes m) ≡ true) (up : (is_off (w.nodes m) ≡ false) × (is_off (w.nodes n) ≡ false)) (c : Cluster) (a : AgreesIn idle w r c) (fv : Plain) (ask : StreamAsk)
     (known : vb_of w n v ≡ Some fv) (asked : ask_of fv ≡ Some ask) (free : is_taken w.links l n v ≡ false) where
   abbrev new : PlainLink
-  new = new_link line l m n v buffer ask
+  new = new_link line l m n v buffer takeover ask
 
   -- the request as it goes out
   abbrev out : StreamAsk
-  out = flagged false ask
+  out = flagged takeover ask
 
   abbrev dialed : PlainWorld
   dialed = with_links w (w.links ++ new ∷ [])
@@ -69,13 +69,13 @@ module _ (w : PlainWorld) (r : Chronicle) (line l m n v buffer : ℕ) (small : (
   follower : VbAgrees r n v (c.nodes (seat n v)) fv
   follower = subst (AgreesAt r n v (c.nodes (seat n v))) known (a.vbs n v)
 
-  asking : Talk fv (c.nodes (consumer_seat new)) (vb_of dialed (producer_node new) v) (c.nodes (producer_seat new)) (r'.stream_of (StreamName.Link l) v) (r'.point_of l) new [] []
+  asking : Talk fv (c.nodes (consumer_seat new)) (vb_of dialed (producer_node new) v) (c.nodes (producer_seat new)) (r'.stream_of (StreamName.Link l) v) (r'.stated_of l) (r'.point_of l) new [] []
   asking =
       let asks = asks_as fv ask asked in
       record {
         asked = request_frames new.consumer.asked new.consumer.dialed out;
         said = [];
-        stands = EndsStand.IsAsking out (ap (λ b. if b then None else r.stream_of (StreamName.Link l) v) (eq-eqb l l refl)) (record {
+        stands = EndsStand.IsAsking out (ap (λ b. if b then None else r.stream_of (StreamName.Link l) v) (eq-eqb l l refl), id_here r.stated_of l None) (record {
           no_stream = refl;
           fewer = opaque_some buffer;
           asking = record {
@@ -85,7 +85,8 @@ module _ (w : PlainWorld) (r : Chronicle) (line l m n v buffer : ℕ) (small : (
             not_more = omega arith;
             server = refl;
             consumer = record { waits = dials_waiting new.consumer.dialed; small = opaque_small buffer };
-            asks = ap (flagged false) asks.1;
+            asks = ap (flagged takeover) asks.1;
+            untold = refl;
             asked_is = refl;
             said_is = refl;
           };
@@ -94,7 +95,7 @@ module _ (w : PlainWorld) (r : Chronicle) (line l m n v buffer : ℕ) (small : (
           behind = request_frames new.consumer.asked new.consumer.dialed out;
           joined = refl;
           bytes = requests_spelled new.consumer.dialed ask;
-          readable = requests_readable new.consumer.asked new.consumer.dialed out (opaque_small buffer) small (subst AskInRange (sym (ap (flagged false) asks.1)) (asks_in_range fv follower.sound follower.entries));
+          readable = requests_readable new.consumer.asked new.consumer.dialed out (opaque_small buffer) small (subst AskInRange (sym (ap (flagged takeover) asks.1)) (flags_in_range takeover (request_of fv.log fv.position) (asks_in_range fv follower.sound follower.entries)));
         };
         downs = record { behind = []; joined = refl; bytes = refl; readable = All-nil Readable };
       }
@@ -105,7 +106,7 @@ module _ (w : PlainWorld) (r : Chronicle) (line l m n v buffer : ℕ) (small : (
     follower_is = known;
     follows = (asks_as fv ask asked).0;
     acks = subst (λ o. AckedIs o 0) (sym (ap (λ b. if b then None else r.stream_of (StreamName.Link l) v) (eq-eqb l l refl))) refl;
-    dial = record { dialed = id_here r.dial_of l (Some (record { producer = m; node = n; vb = v })); named = refl; small = small; alone = refl };
+    dial = record { dialed = id_here r.dial_of l (Some (record { producer = m; node = n; vb = v })); named = refl; small = small };
     talk = asking;
   }
 
@@ -113,6 +114,7 @@ module _ (w : PlainWorld) (r : Chronicle) (line l m n v buffer : ℕ) (small : (
   old_agrees x i =
       link_carried w dialed r r' c c x [] [] (λ f e. (f, e, kept_same f))
       (id_there r.dial_of l (Some (record { producer = m; node = n; vb = v })) (link_number x) (λ e. (free_links w.links l n v free x i).0 (sym e))) (ended_there r l (link_number x) x.consumer.dialed.vb (free_links w.links l n v free x i).0)
+      (id_there r.stated_of l None (link_number x) (λ e. (free_links w.links l n v free x i).0 (sym e)))
       (id_there r.point_of l None (link_number x) (λ e. (free_links w.links l n v free x i).0 (sym e))) refl
       (stays_same (vb_of w (producer_node x) x.consumer.dialed.vb) (c.nodes (producer_seat x)) x) (a.links x i)
 
@@ -153,10 +155,10 @@ module _ (w : PlainWorld) (r : Chronicle) (line l m n v buffer : ℕ) (small : (
 no_ask : {A : Type 0} (ask : StreamAsk) → None ≡ Some ask → A
 no_ask ask e = cc
 
-module _ (w : PlainWorld) (r : Chronicle) (line l m n v buffer : ℕ) where
+module _ (w : PlainWorld) (r : Chronicle) (line l m n v buffer : ℕ) (takeover : Bool) where
   -- what becomes of the line, by the cause to refuse it and by what the vBucket asks for
   abbrev outcome : Option Cause → Option StreamAsk → Outcome
-  outcome why ask = refused_or why w (with_links w (with_dialed line l m n v buffer w.links ask), done [])
+  outcome why ask = refused_or why w (with_links w (with_dialed line l m n v buffer takeover w.links ask), done [])
 
   abbrev Goes : Option Cause → Option StreamAsk → Type 0
   Goes why ask = GoesOn r (λ told. after_dial told l m n v (outcome why ask).1.answer) (outcome why ask)
@@ -165,7 +167,7 @@ module _ (w : PlainWorld) (r : Chronicle) (line l m n v buffer : ℕ) where
       → not (is_some q) ≡ false → is_taken w.links l n v ≡ false → Goes None q
   opened a small number there up o known None e some free = never some
   opened a small number there up None none (Some ask) e some free = no_ask ask e
-  opened a small number there up (Some fv) known (Some ask) e some free = (tt, (a.0, dialed_agrees w r line l m n v buffer small number (both_made (is_some (w.nodes m)) (is_some (w.nodes n)) there) (neither (is_off (w.nodes m)) (is_off (w.nodes n)) up) a.0 a.1 fv ask known e free))
+  opened a small number there up (Some fv) known (Some ask) e some free = (tt, (a.0, dialed_agrees w r line l m n v buffer takeover small number (both_made (is_some (w.nodes m)) (is_some (w.nodes n)) there) (neither (is_off (w.nodes m)) (is_off (w.nodes n)) up) a.0 a.1 fv ask known e free))
 
   by_cause : Agrees w r → (n < 16) × (v < 1024) × (buffer < 2 ^ 32) → l < 1000 → (why : Option Cause) → first_cause (link_causes w l m n v) ≡ why → Goes why (ask_in w n v)
   by_cause a small number (Some why) e = (tt, a)
@@ -173,6 +175,6 @@ module _ (w : PlainWorld) (r : Chronicle) (line l m n v buffer : ℕ) where
       let clear = none_hold (link_causes w l m n v) e in opened a small number clear.0 clear.1.0 (vb_of w n v) refl (ask_in w n v) refl clear.1.1.1.0 clear.1.1.1.1.0
 
 -- `link L M N V BUF`
-pub link_goes : (w : PlainWorld) (r : Chronicle) (line l m n v buffer : ℕ) → VerbFits (Verb.Link l m n v buffer) → Agrees w r
-    → GoesOn r (λ told. after_dial told l m n v (link_step w line l m n v buffer).1.answer) (link_step w line l m n v buffer)
-link_goes w r line l m n v buffer fits a = by_cause w r line l m n v buffer a (fits.2, fits.3, fits.4) fits.0 (first_cause (link_causes w l m n v)) refl
+pub link_goes : (w : PlainWorld) (r : Chronicle) (line l m n v buffer : ℕ) (takeover : Bool) → VerbFits (Verb.Link l m n v buffer takeover) → Agrees w r
+    → GoesOn r (λ told. after_dial told l m n v (link_step w line l m n v buffer takeover).1.answer) (link_step w line l m n v buffer takeover)
+link_goes w r line l m n v buffer takeover fits a = by_cause w r line l m n v buffer takeover a (fits.2, fits.3, fits.4) fits.0 (first_cause (link_causes w l m n v)) refl

@@ -1,9 +1,9 @@
 -- what a vBucket's link acknowledges once more of the vBucket is written down
 use Rattle.std.specs.Prelude.{◌≡◌, ◌<◌, ◌≤◌, ◌∷◌, ◌++◌, ◌^◌, if◌then◌else◌}
-use Rattle.transcript_law.proofs.Words.{ℕ, true, false, List, [], refl, ap, sym, ◌∙◌, subst, append-nil, Option, Some, None, spelling, Event, Sound, after}
+use Rattle.transcript_law.proofs.Words.{ℕ, Bool, true, false, List, [], refl, ap, sym, ◌∙◌, subst, append-nil, Option, Some, None, spelling, Event, Sound, after, is_follower}
 use Rattle.transcript_law.proofs.Words.{DialResult, PlainLink, PlainNode, PlainWorld, link_number, consumer_node, dial_of, row_at, row_put, vb_in, own_link, with_links, with_node_at, with_states, Told, Chronicle, after_lines, LawfulFrom, fork_of, image_in}
 use Rattle.transcript_law.proofs.invariant.Agreement.{vb_of, AgreesAt, VbAgrees, LinkAgrees, IsLink, consumer_seat, idle, AgreesIn, GoesOn}
-use Rattle.transcript_law.proofs.{links.Acknowledging.{DueCame, ack_frame, acked_agrees, ack_lawful, due_came}, invariant.Carrying.{Relinked}, verbs.Leaving.{own_found}, invariant.LinkRows.{put_same, row_found}, verbs.NodeLines.{as_told, node_of_same_vbs}, invariant.OneLink.{carries_same}}
+use Rattle.transcript_law.proofs.{links.Acknowledging.{DueCame, ack_frame, acked_agrees, ack_lawful, due_came, due_rests, owns_not}, invariant.Carrying.{Relinked}, verbs.Leaving.{own_found}, invariant.LinkRows.{put_same, row_found}, verbs.NodeLines.{as_told, node_of_same_vbs}, invariant.OneLink.{carries_same}}
 use Rattle.transcript_law.proofs.lines.Lines.{AreQuiet, after_more, lawful_more}
 use Rattle.transcript_law.specs.Lawfulness.{SavesThirds}
 use Rattle.{dcp_consumer.specs.Machine.{is_streaming}, node_core.specs.Dials.{acknowledged_line, acknowledged_result, due_requested, untold}}
@@ -56,19 +56,23 @@ module _ (w : PlainWorld) (r : Chronicle) (n v : ℕ) (told : Told) (quiet : Are
           linked = ap (λ b. row_put link_number (link_number link) (record link { up = b }) w.links) (append-nil link.up) ∙ put_same (link_number link) w.links link found;
         }) (λ k. refl))
 
-    acked : (seq : ℕ) → is_streaming link.consumer.handshake ≡ true → seq < 2 ^ 64 → seq ≤ fork_of mine.follower.position → SavesThirds (image_in mine.follower) seq mine.follower.saved
+    acked : (seq : ℕ) → is_streaming link.consumer.handshake ≡ true → is_follower mine.follower.role ≡ true → seq < 2 ^ 64 → seq ≤ fork_of mine.follower.position → SavesThirds (image_in mine.follower) seq mine.follower.saved
         → GoesOn r as_told (with_acknowledged n link node w told (node.vbs, acknowledged_result seq s mine.follower.saved))
-    acked seq granted low shared thirds =
+    acked seq granted follows low shared thirds =
         let up : List ℕ = link.up ++ spelling (ack_frame seq link.consumer) in let link' : PlainLink = record link { consumer = record link.consumer { acked = seq }; up = up } in
-        goes_with (put link') (acknowledged_line link.consumer.dialed seq mine.follower.saved ∷ []) (ack_lawful idle w read g.1.0 g.1.1 link [] [] mine seq granted shared thirds, tt)
-        (acked_agrees link seq up refl granted low idle w (put link') read g.1.0 g.1.1 found (record { powers = again.powers; vbs = again.vbs; shelves = again.shelves; uuids = refl; linked = refl }))
+        goes_with (put link') (acknowledged_line link.consumer.dialed seq mine.follower.saved ∷ []) (ack_lawful idle w read g.1.0 g.1.1 link [] [] mine seq granted follows shared thirds, tt)
+        (acked_agrees link seq up refl granted (owns_not link.consumer mine.follower.role mine.follows follows) low idle w (put link') read g.1.0 g.1.1 found (record { powers = again.powers; vbs = again.vbs; shelves = again.shelves; uuids = refl; linked = refl }))
 
     node_goes : GoesOn r as_told (due_at n link w told (Some node))
-    node_goes = by (due_came node.vbs mine.follower s known mine.follows sound)
+    node_goes = by_role (is_follower mine.follower.role) refl
       where
-        by : DueCame node.vbs mine.follower s (after (due_requested s) node.vbs) → GoesOn r as_told (with_acknowledged n link node w told (after (due_requested s) node.vbs))
-        by (DueCame.IsSilent low e) = subst (λ y. GoesOn r as_told (with_acknowledged n link node w told y)) (sym e) silent
-        by (DueCame.IsAcked seq is granted low shared thirds e) = subst (λ y. GoesOn r as_told (with_acknowledged n link node w told y)) (sym e) (acked seq granted low shared thirds)
+        by : is_follower mine.follower.role ≡ true → DueCame node.vbs mine.follower s (after (due_requested s) node.vbs) → GoesOn r as_told (with_acknowledged n link node w told (after (due_requested s) node.vbs))
+        by follows (DueCame.IsSilent low e) = subst (λ y. GoesOn r as_told (with_acknowledged n link node w told y)) (sym e) silent
+        by follows (DueCame.IsAcked seq is granted low shared thirds e) = subst (λ y. GoesOn r as_told (with_acknowledged n link node w told y)) (sym e) (acked seq granted follows low shared thirds)
+
+        by_role : (b : Bool) → is_follower mine.follower.role ≡ b → GoesOn r as_told (with_acknowledged n link node w told (after (due_requested s) node.vbs))
+        by_role true follows = by follows (due_came node.vbs mine.follower s known follows sound)
+        by_role false rests = subst (λ y. GoesOn r as_told (with_acknowledged n link node w told y)) (sym (due_rests node.vbs mine.follower s known rests)) silent
 
   at_node : (link : PlainLink) → IsLink link w.links → consumer_node link ≡ n → (o : Option PlainNode) → w.nodes n ≡ o → GoesOn r as_told (due_at n link w told o)
   at_node link own here None e = g

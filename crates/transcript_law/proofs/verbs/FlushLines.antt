@@ -77,7 +77,7 @@ module _ (w : PlainWorld) (r : Chronicle) (n v : ℕ) (there : There w r n v) wh
   step_agrees states shelves taken saved d s =
       let node' : PlainNode = with_kept node (states, shelves) in let w' : PlainWorld = with_node_at w n node' in let r' : Chronicle = with_disk r n v d in let vb' : Plain = moved taken saved in let now : Cluster = s.cluster.now in
       let became = node_changed w n v node node' vb' at s.vbs s.others refl in
-      written_agrees w w' r r' c now n v vb vb' a vb_is became (record { role = refl; wants = refl; fewer = λ x p o. (o.0, record { among = o.1.among; entry = o.1.entry; same = o.1.same }) }) s.cluster.nodes refl (λ j. refl) (λ j q. refl) (λ j. refl) (λ x i k has s. refl)
+      written_agrees w w' r r' c now n v vb vb' a vb_is became (record { role = refl; wants = refl; fewer = λ x p o. (o.0, record { among = o.1.among; entry = o.1.entry; same = o.1.same }) }) s.cluster.nodes refl (λ j. refl) (λ j q. refl) (λ j. refl) (λ j. refl) (λ x i k has s. refl)
       s.cluster.sound s.cluster.tree (subst (λ m. VbAgrees r' n v m vb') (sym (s.cluster.nodes k)) (record {
         kept = record { sound = s.sound; spanned = mine.spanned; keeps = mine.keeps; told = mine.told; member = record { active = mine.member.active; position = mine.member.position; log = mine.member.log }; branch = mine.branch; holds = mine.holds };
         role = mine.role;
@@ -91,7 +91,7 @@ module _ (w : PlainWorld) (r : Chronicle) (n v : ℕ) (there : There w r n v) wh
       (subst (λ y. DiskIsIf y (now.disks k) (shelf_of w' n v) (Some vb')) (sym (at_here r.disk_at n v d)) (subst (λ y. DiskIsIf d y (shelf_of w' n v) (Some vb')) (sym s.cluster.here)
       (subst (λ y. DiskIsIf d s.disk y (Some vb')) (sym (ap (λ b. shelf_in (if b then Some node' else w.nodes n) v) (eq-eqb n n refl) ∙ s.stands)) s.written)))
       (λ m q o. (at_there r.disk_at n v d m q o, s.cluster.there (seat m q) (seats_apart m q n v o)))
-      (written_rests w w' r r' c now n v vb vb' a vb_is became (record { role = refl; wants = refl; fewer = λ x p o. (o.0, record { among = o.1.among; entry = o.1.entry; same = o.1.same }) }) s.cluster.nodes refl (λ j. refl) (λ j q. refl) (λ j. refl) (λ x i k has s. refl) (λ j. refl)
+      (written_rests w w' r r' c now n v vb vb' a vb_is became (record { role = refl; wants = refl; fewer = λ x p o. (o.0, record { among = o.1.among; entry = o.1.entry; same = o.1.same }) }) s.cluster.nodes refl (λ j. refl) (λ j q. refl) (λ j. refl) (λ j. refl) (λ x i k has s. refl) (λ j. refl)
       (ap (λ (t : DiskKnown). t.there) (at_here r.disk_at n v d) ∙ s.written.there ∙ sym disk.there) (λ m q o. (row_there r n v d m q o, s.cluster.there (seat m q) (seats_apart m q n v o))))
       (λ m d. refl) (λ d k has. refl) (later_same _ _ refl refl)
 

@@ -229,7 +229,7 @@ vb_made r n v VbVerb.Show lines said t a = made_level None lines (level_told r (
 
 pub each_made : (r : Chronicle) (asked : Verb) (lines : List Event) (said : Answer) → TellsOf r asked lines → TellsAsAsked asked lines said → all_made None lines ≡ true
 each_made r (Verb.Node n) lines said t a = made_level None lines (level_told r (Verb.Node n) (λ line e. cc) lines t)
-each_made r (Verb.Link l m n v buffer) lines said t a = made_level None lines (level_told r (Verb.Link l m n v buffer) (λ line e. cc) lines t)
+each_made r (Verb.Link l m n v buffer takeover) lines said t a = made_level None lines (level_told r (Verb.Link l m n v buffer takeover) (λ line e. cc) lines t)
 each_made r (Verb.AtNode n what) lines said t a = made_level None lines (level_told r (Verb.AtNode n what) (node_level r n what) lines t)
 each_made r (Verb.AtVb n v what) lines said t a = vb_made r n v what lines said t a
 each_made r (Verb.AtClient n c what) lines said t a = made_level None lines (level_told r (Verb.AtClient n c what) (client_level n c what) lines t)

@@ -4,7 +4,7 @@ use Rattle.transcript_law.proofs.Words.{ℕ, Bool, true, false, List, map, refl,
 use Rattle.transcript_law.proofs.Words.{and_parts, Event, Cluster, Move, happens, Plain, is_active, is_follower, with_vb_at, StaysSound, row_at, row_out, ended_in, PlainStream, PlainLink, link_number, producer_node}
 use Rattle.transcript_law.proofs.Words.{consumer_node, feeds, PlainNode, PlainWorld, with_node_at, with_links, cut_outcome, unlinked, own_link, link_ended, links_ended, Chronicle, after_end, after_lines}
 use Rattle.transcript_law.proofs.{Words.{LawfulFrom, []}, invariant.Seats.{seat}, invariant.Agreement.{vb_of, VbAgrees, AgreesAt, IsLink, LinksDiffer, consumer_seat, idle, AgreesIn, Agrees, GoesOn}, invariant.Carrying.{Changed}}
-use Rattle.transcript_law.proofs.{invariant.Carrying.{StreamsChanged}, invariant.Carried.{not_both, fed_same, vb_carried, stream_opened, kept_streams, stream_end_lines}, invariant.LinkRows.{found_is_link, differ_in, links_apart, out_links}}
+use Rattle.transcript_law.proofs.{invariant.Carrying.{StreamsChanged}, invariant.Carried.{fed_same, vb_carried, stream_apart, kept_streams, stream_end_lines}, invariant.LinkRows.{found_is_link, differ_in, links_apart, out_links}}
 use Rattle.transcript_law.proofs.{invariant.Agreement.{shelf_of}, disks.Disks.{disk_same, parts_of}, Words.{vb_in}}
 use Rattle.transcript_law.proofs.{invariant.OneLink.{carries_over, carries_same}, links.Cutting.{IsClosable, closable, unlinking}, verbs.NodeLines.{as_told, at_node, changed_agrees}, links.Turning.{NoneFeeds, not_ended, told_by}}
 use Rattle.transcript_law.proofs.{invariant.{ClientsKept.{link_none}, LinkFeeds.{link_feeds}}, links.Turning.{told_alike, differ_told}}
@@ -14,7 +14,7 @@ use Rattle.transcript_law.proofs.invariant.Owing.{later_same}
 -- a link is cut
 
 -- a link of the list is found by its number
-row_found : (links : List PlainLink) (link : PlainLink) → LinksDiffer links → IsLink link links → row_at link_number (link_number link) links ≡ Some link
+pub row_found : (links : List PlainLink) (link : PlainLink) → LinksDiffer links → IsLink link links → row_at link_number (link_number link) links ≡ Some link
 row_found [] link d i = absurd i
 row_found (x ∷ xs) link d i = ⊎_elim
     (λ e. ap (λ b. if b then Some x else row_at link_number (link_number link) xs) (eq-eqb (link_number x) (link_number link) (ap link_number (sym e))) ∙ ap Some (sym e))
@@ -105,7 +105,7 @@ module _ (w w' : PlainWorld) (r : Chronicle) (c : Cluster) (n v id : ℕ) (pv pv
       changed (subst (AgreesAt r n v (c.nodes (seat n v))) known (a.vbs n v))
 
   pub streams_agree : AgreesIn idle w' r c
-  streams_agree = changed_agrees w w' r r c n v pv pv' a known became (kept_streams id pv pv' changed) refl (λ k. refl) (λ k q. refl) (λ k. refl)
+  streams_agree = changed_agrees w w' r r c n v pv pv' a known became (kept_streams id pv pv' changed) refl (λ k. refl) (λ k q. refl) (λ k. refl) (λ k. refl)
       (λ x i k has s. changed.others k (λ e. apart x i (subst (λ j. HasOpen v j x.server.streams) e has) s)) here (λ m q other. a.vbs m q) (λ m q. refl) shelf
       (disk_same (Some pv) (Some pv') refl refl refl (ap parts_of changed.alone)) (λ m. refl) (λ m q other. refl)
       (λ m d. refl) (λ d k has. changed.others k (λ e. alone d (subst (IsOfClient w n d v) e has))) (later_same _ _ refl refl)
@@ -156,12 +156,7 @@ module _ (stays : StaysSound) (w : PlainWorld) (r : Chronicle) (c : Cluster) (n 
   -- its stream is not one of its own vBucket
   no_own : (stream : PlainStream) → link.server.streams ≡ stream ∷ [] → stream.ended ≡ false → producer_node link ≡ n → ⊥
   no_own stream has going e =
-      let la = a.links link own.0 in
-      let (pv, is, active, s, opened, on) = stream_opened w r c link [] [] la stream.vb stream.id (subst (HasOpen stream.vb stream.id) (sym has) (inl (refl, refl, going))) in
-      let here : Some pv ≡ Some vb = sym is ∙ ap (λ k. vb_of w k link.consumer.dialed.vb) e ∙ ap (vb_of w n) own.2 ∙ known in
-      let there : Some la.follower ≡ Some vb = sym la.follower_is ∙ ap (λ k. vb_of w k link.consumer.dialed.vb) own.1 ∙ ap (vb_of w n) own.2 ∙ known in
-      let one : pv ≡ vb = cc in let two : la.follower ≡ vb = cc in
-      not_both vb.role (subst (λ (p : Plain). is_active p.role ≡ true) one active) (subst (λ (p : Plain). is_follower p.role ≡ true) two la.follows)
+      stream_apart w r c link [] [] (a.links link own.0) stream.vb stream.id (subst (HasOpen stream.vb stream.id) (sym has) (inl (refl, refl, going))) (e ∙ sym own.1)
 
   can : IsClosable ended link'
   can = told_by n v ids link (IsClosable ended)

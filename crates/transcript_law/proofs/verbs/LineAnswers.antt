@@ -15,7 +15,7 @@ use Rattle.transcript_law.proofs.disks.AppendAnswers.{AppendCame, HasEnded, Shut
 use Rattle.transcript_law.proofs.disks.AppendLines.{NewShutIs, NoLines, dead_came, follow_came, promote_came}
 use Rattle.transcript_law.proofs.{invariant.Agreement.{IsArm}, disks.ArmedSteps.{shut_in}, disks.Burning.{quiet_same}, disks.Flushed.{StepSays, done_says, flush_came, looked, refused_tells, save_says, take_says, told_flush}, invariant.JobSteps.{put_found, same_shelf, shelf_found}, verbs.NodeLines.{on_node_by, put_same as put_states}}
 use Rattle.transcript_law.proofs.lines.Refusals.{Anything, CarriesOut, IsMade, Refuses, Same, Says, on_link_says, on_node_says, with_broken_keeps}
-use Rattle.transcript_law.specs.{Chronicles.{DiskKnown, blank_disk}, LineAnswers.{IsAppended, IsNoted, IsOut, IsSaved, IsTaken, TakesAsTold, batches_in_lines}, Plainness.{AndClients, AreOwnIf, IsOfClient, IsOwnIf, IsStanding}}
+use Rattle.transcript_law.specs.{Chronicles.{DiskKnown, blank_disk}, LineAnswers.{IsAppended, IsNoted, IsOut, IsSaved, IsTaken, SealsAs, TakesAsTold, batches_in_lines}, Plainness.{AndClients, AreOwnIf, IsOfClient, IsOwnIf, IsStanding}}
 use Rattle.transcript_law.proofs.{lines.ClientLines.{AllKept, AreOfClients, posts_of_clients}, invariant.{OwnClients.{posts_own}, Ranged.{IsRanged, NodeRanged, NodeRangedIf}}}
 use Rattle.vb_calls.specs.declared.calls.Resolved.{Resolved}
 use Rattle.node_core.specs.Clients.{PlainClient, client_ended}
@@ -34,9 +34,9 @@ shows vb = (_, _, _, _, _, _, refl)
 
 -- operators' calls
 
--- whether a vBucket changed since it was sealed is told as it is
+-- so many are sealed of a vBucket as is told of whether it changed since
 abbrev pub OpensTold : PlainWorld → Chronicle → Type 0
-OpensTold w r = (n v : ℕ) (vb : Plain) → vb_in (w.nodes n) v ≡ Some vb → r.open_at n v ≡ is_some vb.spans.current
+OpensTold w r = (n v : ℕ) (vb : Plain) → vb_in (w.nodes n) v ≡ Some vb → SealsAs (r.role_at n v) (r.open_at n v) (if is_some vb.spans.current then 1 else 0)
 
 -- and so is what was written down of it
 abbrev pub DisksTold : PlainWorld → Chronicle → Type 0
@@ -298,7 +298,7 @@ disks_told_of : (w : PlainWorld) → DisksTold w (opens_of w)
 disks_told_of w n v vb shelf e f = let is : disk_in (vb_in (w.nodes n) v) (shelf_in (w.nodes n) v) ≡ disk_in (Some vb) (Some shelf) = (λ i. disk_in (e i) (f i)) in (ap (λ (d : DiskKnown). d.flushing) is, ap (λ (d : DiskKnown). d.saved) is)
 
 pub told_of_opens : (w : PlainWorld) → AllTold w (opens_of w)
-told_of_opens w = (λ n v vb e. ap opens_in e, disks_told_of w)
+told_of_opens w = (λ n v vb e. ap (λ o. if opens_in o then 1 else 0) (sym e), disks_told_of w)
 
 -- where a change of role is answered `ok`, its own lines end so, with those of its node's clients behind them
 turn_tells : (Own : List Event → Type 0) (w : PlainWorld) (n v : ℕ) (o : Outcome) → AppendCame (EndsWith (AndClients n Own)) (shut_at w n v) w n o → (with_arm n w o).1.answer ≡ Answer.Ok → EndsWith (AndClients n Own) (with_arm n w o).1.events

@@ -9,13 +9,14 @@ use Rattle.transcript_law.proofs.Words.{stream_at, ⊎_elim, row_at, row_put, wi
 use Rattle.transcript_law.proofs.invariant.Tables.{none_there, at_here, at_there, id_here, if_known, used_before}
 use Rattle.transcript_law.specs.{Heirs.{IsRisen}, Lawfulness.{LawfulBranch, fork_in, newest_of}}
 use Rattle.transcript_law.proofs.{invariant.Lefts.{LeftUpTo}, invariant.Wholes.{WholeTo}}
+use Rattle.transcript_law.proofs.invariant.Holdings.{OpenedAs, opened_as}
 use Rattle.transcript_law.proofs.links.Followed.{fork_low}
 use Rattle.transcript_law.proofs.invariant.Seats.{seat, seats_apart}
 use Rattle.transcript_law.proofs.invariant.Agreement.{clock_of, node_known, TimesAre, TimesIf, times_if, all_rise, CountsAre, CountsIf, counts_if, vb_of, Writes, WritesIf, own_history, VbHeld, VbHolds, VbAgrees, AgreesAt, consumer_seat, producer_seat, LinkAgrees, Agrees, GoesOn, LineGoes, idle, vb_contents, vb_row, VbRow, VbTold, BranchAgrees, IsLink, LinksDiffer, AgreesIn}
 use Rattle.transcript_law.specs.Feeding.{HasOpen, IsOfClient, client_in}
 use Rattle.transcript_law.proofs.invariant.{Agreement.{Wants}, Carried.{all_there}, ClientsKept.{AllIn, ConnsKept, Every, GoesOver, all_kept, clients_kept, every_owed, fewer_at, fewer_now, goes_agreed, goes_agreed_at, spot_at}, LinkFeeds.{feeds_same}}
 use Rattle.transcript_law.proofs.invariant.Carrying.{Reclocked, Relinked, Changed}
-use Rattle.transcript_law.proofs.invariant.Carried.{kept_same, link_carried, consumer_made, branches_again, KeptVb, places, all_vbs, ids_same}
+use Rattle.transcript_law.proofs.invariant.Carried.{as_far, kept_same, link_carried, consumer_made, branches_again, KeptVb, places, all_vbs, ids_same}
 use Rattle.transcript_law.proofs.invariant.LinkRows.{found_is_link, put_same as put_link_same}
 use Rattle.transcript_law.proofs.{invariant.OneLink.{carries_rests, carries_same}, invariant.Resting.{ends_again, rests_by}}
 use Rattle.{node_world.specs.Nodes.{if_up}, node_world.specs.Worlds.{on_made}, node_world.specs.declared.arm.Arm.{Arm}, transcript_law.specs.Chronicles.{CountsKnown, after_branch, after_clock, DiskKnown, alone, is_branch, no_arm, snap_in_role}}
@@ -307,18 +308,20 @@ admin_by w n v asked node x = (with_node_at w n (with_states node x.0), call_tol
 
 -- the links agree as before: no link speaks of a vBucket that was not made
 pub new_links : (w w' : PlainWorld) (r r' : Chronicle) (c c' : Cluster) (n v : ℕ) (x : PlainLink) (up down : List Frame) → vb_of w n v ≡ None
-    → ((m q : ℕ) → (m ≡ n → q ≡ v → ⊥) → vb_of w' m q ≡ vb_of w m q) → ((k : ℕ) → r'.dial_of k ≡ r.dial_of k) → ((k q : ℕ) → r'.stream_of (StreamName.Link k) q ≡ r.stream_of (StreamName.Link k) q) → ((k : ℕ) → r'.point_of k ≡ r.point_of k)
+    → ((m q : ℕ) → (m ≡ n → q ≡ v → ⊥) → vb_of w' m q ≡ vb_of w m q) → ((k : ℕ) → r'.dial_of k ≡ r.dial_of k) → ((k q : ℕ) → r'.stream_of (StreamName.Link k) q ≡ r.stream_of (StreamName.Link k) q) → ((k : ℕ) → r'.stated_of k ≡ r.stated_of k) → ((k : ℕ) → r'.point_of k ≡ r.point_of k)
     → ((j : ℕ) → (j ≡ seat n v → ⊥) → c'.nodes j ≡ c.nodes j) → LinkAgrees w r c x up down → LinkAgrees w' r' c' x up down
-new_links w w' r r' c c' n v x up down none there dials streams points members a = link_carried w w' r r' c c' x up down
+new_links w w' r r' c c' n v x up down none there dials streams states points members a = link_carried w w' r r' c c' x up down
     (λ fv e. (fv, there (consumer_node x) x.consumer.dialed.vb (absent (consumer_node x) x.consumer.dialed.vb fv e) ∙ e, kept_same fv))
-    (dials (link_number x)) (streams (link_number x) x.consumer.dialed.vb) (points (link_number x)) (members (consumer_seat x) (λ e. consumer_made w r c x up down a n v none (sym e)))
-    (λ p k s e active opened has.
-    let other = absent (producer_node x) x.consumer.dialed.vb p e in (
+    (dials (link_number x)) (streams (link_number x) x.consumer.dialed.vb) (states (link_number x)) (points (link_number x)) (members (consumer_seat x) (λ e. consumer_made w r c x up down a n v none (sym e)))
+    (λ p k s e feeds opened has.
+    let other = absent (producer_node x) x.consumer.dialed.vb p e in let far = members (producer_seat x) (seats_apart (producer_node x) x.consumer.dialed.vb n v other) in (
       p,
       there (producer_node x) x.consumer.dialed.vb other ∙ e,
-      active,
+      refl,
       opened,
-      ap (λ (m : Member). m.br) (members (producer_seat x) (seats_apart (producer_node x) x.consumer.dialed.vb n v other)),
+      ap (λ (m : Member). m.br) far,
+      λ dead. ap (λ (m : Member). m.position) far,
+      as_far (ap (λ (m : Member). m.position) far),
     ))
     a
   where
@@ -343,7 +346,7 @@ vb_told r r' n v m (Some vb) row writes front a = record {
         (λ i w. let low : fork_of vb.position ≤ vb.position.at = fork_low vb.position a.sound.within.0 in let k : i ≤ fork_of vb.position = w.1 in omega arith) a.holds;
   };
   role = ap (λ (t : VbRow). t.role) row ∙ a.role;
-  opened = ap (λ (t : VbRow). t.opened) row ∙ a.opened;
+  opened = subst (λ (t : VbRow). OpenedAs vb.role t.opened (is_some vb.spans.current)) (sym row) a.opened;
   writes = writes (is_active vb.role) a.writes;
   counts = subst (λ (t : VbRow). CountsIf (is_active vb.role) t.counts vb.others vb.acks) (sym row) a.counts;
   lefts = subst (λ (t : VbRow). is_active vb.role ≡ true → LeftUpTo t.counts.risen vb.position.at vb.waiting) (sym row) a.lefts;
@@ -419,7 +422,7 @@ pub role_here : (r : Chronicle) (n v : ℕ) (role : Role) (m : Member) (vb : Pla
 role_here r n v role m vb is sealed leads a = record {
   kept = subst (λ s. VbHeld r.tree (record (vb_contents r n v) { snap = s }) m vb) (sym (snap_here r n v role m vb a (λ e. (leads e).2))) a;
   role = at_here r.role_at n v (Some (Some role)) ∙ ap (λ (x : Role). Some (Some x)) (sym is);
-  opened = at_here r.open_at n v false ∙ sym (ap is_some sealed);
+  opened = opened_as vb.role (with_at r.open_at n v false n v) (is_some vb.spans.current) (at_here r.open_at n v false ∙ sym (ap is_some sealed));
   writes = elim (is_active vb.role) as (λ b. b ≡ is_active role → WritesIf b (after_role r n v role) n v m.br) [ true ↦ λ e. writes_led (leads (sym e)).0 | false ↦ λ e. tt ] (ap is_active is);
   counts = counts_if (λ e. (leads (sym (ap is_active is) ∙ e)).1);
   lefts = λ e. subst (λ (t : CountsKnown). LeftUpTo t.risen vb.position.at vb.waiting) (sym (at_here r.counts_at n v (alone (last_seq 0 (r.held n v)))))
@@ -437,7 +440,7 @@ role_here r n v role m vb is sealed leads a = record {
 
 -- a vBucket that changed at links that are as they were: it keeps what its links speak of, and the streams that they have open
 module _ (w w' : PlainWorld) (r r' : Chronicle) (c c' : Cluster) (n v : ℕ) (vb vb' : Plain) (a : AgreesIn idle w r c) (known : vb_of w n v ≡ Some vb) (became : Changed w w' n v vb' w.links) (kept : KeptVb vb vb')
-    (nodes : (j : ℕ) → c'.nodes j ≡ c.nodes j) (tree : r'.tree ≡ r.tree) (dials : (k : ℕ) → r'.dial_of k ≡ r.dial_of k) (streams : (k q : ℕ) → r'.stream_of (StreamName.Link k) q ≡ r.stream_of (StreamName.Link k) q) (points : (k : ℕ) → r'.point_of k ≡ r.point_of k)
+    (nodes : (j : ℕ) → c'.nodes j ≡ c.nodes j) (tree : r'.tree ≡ r.tree) (dials : (k : ℕ) → r'.dial_of k ≡ r.dial_of k) (streams : (k q : ℕ) → r'.stream_of (StreamName.Link k) q ≡ r.stream_of (StreamName.Link k) q) (states : (k : ℕ) → r'.stated_of k ≡ r.stated_of k) (points : (k : ℕ) → r'.point_of k ≡ r.point_of k)
     (opens : (x : PlainLink) → IsLink x w.links → (k : ℕ) → HasOpen v k x.server.streams → producer_node x ≡ n → stream_at k vb'.streams ≡ stream_at k vb.streams) where
   one_of : (m q : ℕ) (x : Plain) → vb_of w m q ≡ Some x → m ≡ n → q ≡ v → x ≡ vb
   one_of m q x e s t = let z : Some x ≡ Some vb = sym e ∙ ap (λ k. vb_of w k q) s ∙ ap (vb_of w n) t ∙ known in cc
@@ -451,17 +454,19 @@ module _ (w w' : PlainWorld) (r r' : Chronicle) (c c' : Cluster) (n v : ℕ) (vb
       (λ s. (vb', put_is (consumer_node x) x.consumer.dialed.vb s.0 s.1, subst (λ y. KeptVb y vb') (sym (one_of (consumer_node x) x.consumer.dialed.vb fv e s.0 s.1)) kept))
       (λ o. (fv, became.there (consumer_node x) x.consumer.dialed.vb o ∙ e, kept_same fv))
       (places n v (consumer_node x) x.consumer.dialed.vb))
-      (dials (link_number x)) (streams (link_number x) x.consumer.dialed.vb) (points (link_number x)) (nodes (consumer_seat x))
-      (λ p k s e active opened has. ⊎_elim
+      (dials (link_number x)) (streams (link_number x) x.consumer.dialed.vb) (states (link_number x)) (points (link_number x)) (nodes (consumer_seat x))
+      (λ p k s e feeds opened has. ⊎_elim
       (λ t.
       let same = one_of x.server.desk.node x.consumer.dialed.vb p e t.0 t.1 in (
         vb',
         put_is x.server.desk.node x.consumer.dialed.vb t.0 t.1,
-        ap is_active kept.role ∙ subst (λ (y : Plain). is_active y.role ≡ true) same active,
+        kept.role ∙ ap (λ (y : Plain). y.role) (sym same),
         opens x i k (subst (λ q. HasOpen q k x.server.streams) t.1 has) t.0 ∙ subst (λ (y : Plain). stream_at k y.streams ≡ Some s) same opened,
         ap (λ (m : Member). m.br) (nodes (producer_seat x)),
+        λ dead. ap (λ (m : Member). m.position) (nodes (producer_seat x)),
+        as_far (ap (λ (m : Member). m.position) (nodes (producer_seat x))),
       ))
-      (λ o. (p, became.there x.server.desk.node x.consumer.dialed.vb o ∙ e, active, opened, ap (λ (m : Member). m.br) (nodes (producer_seat x))))
+      (λ o. (p, became.there x.server.desk.node x.consumer.dialed.vb o ∙ e, refl, opened, ap (λ (m : Member). m.br) (nodes (producer_seat x)), λ dead. ap (λ (m : Member). m.position) (nodes (producer_seat x)), as_far (ap (λ (m : Member). m.position) (nodes (producer_seat x)))))
       (places n v x.server.desk.node x.consumer.dialed.vb))
       (a.links x i)
 
@@ -518,14 +523,14 @@ module _ (w w' : PlainWorld) (r r' : Chronicle) (c c' : Cluster) (n v : ℕ) (vb
 
 -- the same, where the cluster is as it was, and nothing was written down
 pub changed_agrees : (w w' : PlainWorld) (r r' : Chronicle) (c : Cluster) (n v : ℕ) (vb vb' : Plain) (a : AgreesIn idle w r c) → vb_of w n v ≡ Some vb → (became : Changed w w' n v vb' w.links) → KeptVb vb vb'
-    → r'.tree ≡ r.tree → ((k : ℕ) → r'.dial_of k ≡ r.dial_of k) → ((k q : ℕ) → r'.stream_of (StreamName.Link k) q ≡ r.stream_of (StreamName.Link k) q) → ((k : ℕ) → r'.point_of k ≡ r.point_of k)
+    → r'.tree ≡ r.tree → ((k : ℕ) → r'.dial_of k ≡ r.dial_of k) → ((k q : ℕ) → r'.stream_of (StreamName.Link k) q ≡ r.stream_of (StreamName.Link k) q) → ((k : ℕ) → r'.stated_of k ≡ r.stated_of k) → ((k : ℕ) → r'.point_of k ≡ r.point_of k)
     → ((x : PlainLink) → IsLink x w.links → (k : ℕ) → HasOpen v k x.server.streams → producer_node x ≡ n → stream_at k vb'.streams ≡ stream_at k vb.streams)
     → VbAgrees r' n v (c.nodes (seat n v)) vb' → ((m q : ℕ) → (m ≡ n → q ≡ v → ⊥) → AgreesAt r' m q (c.nodes (seat m q)) (vb_of w m q))
     → ((m q : ℕ) → r'.disk_at m q ≡ r.disk_at m q) → shelf_of w' n v ≡ shelf_of w n v → (DiskIsIf (r.disk_at n v) (c.disks (seat n v)) (shelf_of w n v) (Some vb) → DiskIsIf (r.disk_at n v) (c.disks (seat n v)) (shelf_of w n v) (Some vb')) → ((m : ℕ) → node_known r' m ≡ node_known r m)
     → ((m q : ℕ) → (m ≡ n → q ≡ v → ⊥) → vb_row r' m q ≡ vb_row r m q)
     → ((m d : ℕ) → r'.clients_at m d ≡ r.clients_at m d) → ((d k : ℕ) → IsOfClient w n d v k → stream_at k vb'.streams ≡ stream_at k vb.streams) → Later r r' → AgreesIn idle w' r' c
-changed_agrees w w' r r' c n v vb vb' a known became kept tree dials streams points opens here elsewhere disks shelf parts arms rows clients stands last =
-    written_agrees w w' r r' c c n v vb vb' a known became kept (λ j. refl) tree dials streams points opens a.sound refl here elsewhere
+changed_agrees w w' r r' c n v vb vb' a known became kept tree dials streams states points opens here elsewhere disks shelf parts arms rows clients stands last =
+    written_agrees w w' r r' c c n v vb vb' a known became kept (λ j. refl) tree dials streams states points opens a.sound refl here elsewhere
     (disk_same (Some vb') (Some vb') (disks n v) refl shelf refl (parts (subst (DiskIsIf (r.disk_at n v) (c.disks (seat n v)) (shelf_of w n v)) known (a.disks n v))))
     (λ m q o. (disks m q, refl))
-    (written_rests w w' r r' c c n v vb vb' a known became kept (λ j. refl) tree dials streams points opens arms (ap (λ (d : DiskKnown). d.there) (disks n v)) (λ m q o. (rows m q o, refl))) clients stands last
+    (written_rests w w' r r' c c n v vb vb' a known became kept (λ j. refl) tree dials streams states points opens arms (ap (λ (d : DiskKnown). d.there) (disks n v)) (λ m q o. (rows m q o, refl))) clients stands last

@@ -1,16 +1,16 @@
 -- what the law needs of each line for a node, for a client's connection and for a link
 use Rattle.std.specs.Prelude.{◌≡◌, ◌∷◌, ◌||◌, ◌&&◌, if◌then◌else◌}
-use Rattle.transcript_law.proofs.Words.{ℕ, true, false, [], refl, ap, sym, subst, ◌∙◌, arith, Option, Some, None, is_some, not, Answer, Cause, Chronicle, Verb, NodeVerb, ClientVerb, LinkVerb, PlainLink, PlainNode, PlainWorld, Outcome, Told, IsAnswered, LawfulAnswer, after_verb, stays, take_snapshots}
-use Rattle.transcript_law.proofs.Words.{ask_in, bytes_at, client_at, clock_at, consumer_node, cut_outcome, done, drop, empty_node, bytes_if, first_cause, hang_at, link_causes, link_number, node_causes, node_step, on_link, on_node, peer_of, peer_pulled, producer_node, pump_at, refusal, row_at, unlinked, up_at, with_client, with_dialed, with_links, with_node_at}
-use Rattle.node_world.specs.{Arms.{fail_arm, stop_arm}, Nodes.{arm_at, hung_if, pull_at, pull_if}, Power.{crash_causes, crash_step, down_lines, dropped, start_at, start_causes, start_step}, World.{base_of, client_verb_at, cut_step, down_in, down_outcome, down_step, link_step, link_verb_step, node_verb_step}, Worlds.{is_off, on_made}, declared.arm.Arm.{Arm}}
-use Rattle.transcript_law.proofs.invariant.LinkRows.{found_is_link}
-use Rattle.transcript_law.proofs.invariant.{AtRest.{RestsIf, Still, bytes_still, down_rests, either_node, hang_still, link_still, pull_still, start_still, still_put, still_ran, still_steps, up_still, weaker}, CallsKept.{InWorld, dropped_all, none_at, on_made_all, unless_all, unlinked_all}, Agreement.{Agrees, GoesOn}, Entering.{Entered, armed_entered, blank_entered, clock_entered, crashed_entered, dial_entered, moved_entered, start_line_entered}}
-use Rattle.transcript_law.proofs.invariant.{FedClients.{bytes_keeps, client_keeps, hang_keeps, pull_keeps}, FedLines.{broken_line, cut_fine, dialed_fed, down_fine, pump_fed, same_keeps, start_keeps, unless_fed, up_fed}, Feeding.{dropped_fine, made_fine, with_node as fed_node}, TimelyCalls.{pulled_tame}}
-use Rattle.transcript_law.proofs.invariant.Ranged.{IsRanged, NodeRanged, NodeRangedIf, bytes_ranged, client_ranged, down_ranged, dropped_ranged, hang_ranged, kept_ranged, on_link_ranged, on_made_ranged, pull_ranged, same_ranged, start_at_ranged, unless_ranged, unlinked_ranged, up_ranged, with_node}
-use Rattle.transcript_law.proofs.{invariant.Clients.{client_answered, crash_answered}, disks.AppendLines.{start_says}, disks.Fired.{ends_calm}, lines.Calm.{Spared, bytes_calm, pump_calm, up_calm}, lines.PullTold.{pull_calm, pull_made}, lines.Refusals.{Anything, Same, Says, on_link_says, on_node_says, refused_says, unchanged}, links.PumpAnswers.{pump_says}, ends.Open.{cut_answered, down_over, link_answered, pump_answered, up_answered}}
+use Rattle.transcript_law.proofs.Words.{ℕ, Bool, true, false, [], refl, ap, sym, subst, ◌∙◌, arith, Option, Some, None, is_some, not, Answer, Cause, Chronicle, Verb, NodeVerb, ClientVerb, LinkVerb, PlainLink, PlainNode, PlainWorld, Outcome, Told, IsAnswered, LawfulAnswer, after_verb, stays, take_snapshots}
+use Rattle.transcript_law.proofs.Words.{ask_in, bytes_at, client_at, clock_at, consumer_node, cut_outcome, done, drop, empty_node, bytes_if, first_cause, hang_at, link_causes, link_number, node_causes, node_step, on_link, on_node, producer_node, refusal, row_at, unlinked, up_at, with_client, with_dialed, with_links, with_node_at}
+use Rattle.node_world.specs.{Arms.{fail_arm, stop_arm}, Nodes.{arm_at, hung_if, pull_at, pull_if}, Power.{crash_causes, crash_step, down_lines, dropped, start_at, start_causes, start_step}, World.{base_of, client_verb_at, cut_step, down_in, down_outcome, down_step, link_step, link_verb_step, node_verb_step, pump_outcome, pump_step}, Worlds.{is_off, on_made}, declared.arm.Arm.{Arm}}
+use Rattle.transcript_law.proofs.{invariant.LinkRows.{found_is_link}, noted.{Joint.{noted_of}, Pumped.{pump_known}}}
+use Rattle.transcript_law.proofs.invariant.{AtRest.{RestsIf, Still, bytes_still, down_rests, either_node, hang_still, link_still, pull_still, start_still, still_put, still_steps, up_still, weaker}, CallsKept.{InWorld, dropped_all, none_at, on_made_all, unless_all, unlinked_all}, Agreement.{Agrees, GoesOn}, Entering.{Entered, armed_entered, blank_entered, clock_entered, crashed_entered, dial_entered, moved_entered, start_line_entered}}
+use Rattle.transcript_law.proofs.invariant.{FedClients.{bytes_keeps, client_keeps, hang_keeps, pull_keeps}, FedLines.{broken_line, cut_fine, dialed_fed, down_fine, same_keeps, start_keeps, unless_fed, up_fed}, Feeding.{dropped_fine, made_fine, with_node as fed_node}}
+use Rattle.transcript_law.proofs.invariant.Ranged.{IsRanged, NodeRanged, NodeRangedIf, bytes_ranged, client_ranged, down_ranged, dropped_ranged, hang_ranged, kept_ranged, on_link_ranged, on_made_ranged, pull_ranged, start_at_ranged, unless_ranged, unlinked_ranged, up_ranged, with_node}
+use Rattle.transcript_law.proofs.{invariant.Clients.{client_answered, crash_answered}, disks.AppendLines.{start_says}, disks.Fired.{ends_calm}, lines.Calm.{Spared, bytes_calm, up_calm}, lines.PullTold.{pull_calm, pull_made}, lines.Refusals.{Anything, Same, Says, on_link_says, on_node_says, refused_says, unchanged}, ends.Open.{cut_answered, down_over, link_answered, pump_answered, up_answered}}
 use Rattle.transcript_law.proofs.verbs.{BoundAnswers.{bound, bound_at, bound_down, closed_link_refused, crash_refused, link_refused, node_exists, off_as_power, one, over, start_refused}, FiredLines.{down_fires, rows_fire}, LineAnswers.{IsOk, down_line_says, no_ok}}
-use Rattle.transcript_law.proofs.verbs.{ArmLines.{fail_goes, stop_goes}, Crashing.{crash_goes}, Dials.{link_goes}, DownLine.{down_answered, down_goes}, Handing.{no_rise}, Leaving.{cut_goes}, NodeLines.{as_told, clock_goes, node_goes, on_link_by, on_made_by, on_node_by, refused_on}}
-use Rattle.transcript_law.proofs.verbs.{Pumping.{pump_goes}, Requesting.{bytes_goes}, Rows.{Goes, Row, alone_row, answered_row, told_goes}, Settling.{steady}, Starting.{start_answered, start_fires, start_goes}, ClientTellings.{bytes_tells, pull_tells}, LinkTellings.{link_tells}, NodeTellings.{crash_tells, start_tells}, StopTellings.{world_dialed}, Tellings.{tell_unless}, Ups.{up_goes}}
+use Rattle.transcript_law.proofs.verbs.{ArmLines.{fail_goes, stop_goes}, Crashing.{crash_goes}, Dials.{link_goes}, DownLine.{down_answered, down_goes}, DownOwns.{owns_settled}, Leaving.{cut_goes}, NodeLines.{as_told, clock_goes, node_goes, on_link_by, on_made_by, on_node_by, refused_on}}
+use Rattle.transcript_law.proofs.verbs.{PumpLines.{pump_fed, pump_keeps, pump_ranged, pump_spared, pump_still}, Pumping.{pump_came}, Requesting.{bytes_goes}, Rows.{Goes, Row, alone_row, answered_row, told_goes}, Settling.{steady}, Starting.{start_answered, start_fires, start_goes}, ClientTellings.{bytes_tells, pull_tells}, LinkTellings.{cut_tells, up_tells}, NodeTellings.{crash_tells, start_tells}, StopTellings.{world_dialed}, Tellings.{tell_unless}, Ups.{up_goes}}
 use Rattle.transcript_law.specs.{Bound.{is_told_down}, Chronicles.{after_bytes, heir_in, known_fail, known_stop}, Firings.{FiresInLine}, Tellings.{TellsOf, is_none, is_of_end}}
 use Rattle.node_core.specs.Clients.{new_client}
 use Rattle.transcript_law.proofs.indexers.{Closing.{hang_line_goes, open_line_goes}, Pulled.{pull_goes}}
@@ -24,8 +24,8 @@ node_row w n =
     let x : Outcome = (with_node_at w n empty_node, done []) in let why : Option Cause = first_cause (node_causes w n) in let told : Told = (node_step w n).1 in
     let says : Says IsOk (Same w) (node_step w n) = refused_says IsOk (Same w) w x why no_ok (unchanged w) (tt, λ why e s. cc) in record {
       ranged = λ fits r. unless_ranged w x why r (with_node w n empty_node r (record { clock = omega arith; clients = λ c. tt; own = λ c. tt; runs = λ e c. refl }));
-      rests = λ r here a all. weaker (node_step w n).0 (unless_all Still IsTimely still_steps (λ id. tt) w x why all (still_put w n empty_node all (none_at Still IsTimely still_steps (λ id. tt))));
-      fed = λ fine kept. unless_fed w x why fine.fed (fed_node w n empty_node fine.fed (record { owned = λ v id h. absurd h; kept = λ c client e. cc }));
+      rests = λ r here h a all. weaker (node_step w n).0 (unless_all Still IsTimely still_steps (λ id. tt) w x why all (still_put w n empty_node all (none_at Still IsTimely still_steps (λ id. tt))));
+      fed = λ r here calm h a fine kept. unless_fed w x why fine.fed (fed_node w n empty_node fine.fed (record { owned = λ v id h. absurd h; kept = λ c client e. cc }));
       keeps = λ rests. says.1;
       tells = λ r t. tell_unless is_none (is_of_end r) why w x refl;
       told = λ r fits t. (says.0, rows_fire (node_causes w n) w x (tt, tt) refl);
@@ -43,8 +43,8 @@ arm_row w n what arm bound told entered goes =
     let f : PlainNode → PlainNode × Told = arm_at arm in let came : Outcome = on_made w n f in
     let says : Says IsOk (Same w) came = on_made_by (Says IsOk (Same w)) w n f (tt, λ why e s. (unchanged w, refl)) (λ node known. (tt, λ why e s. cc)) in record {
       ranged = λ fits r. on_made_ranged w n f r (λ node here. kept_ranged n node (f node).0 refl (λ c. refl) refl here);
-      rests = λ r here a all. weaker came.0 (on_made_all Still IsTimely still_steps (λ id. tt) w n f all (λ node e there. there));
-      fed = λ fine kept. (made_fine w n f fine same_keeps).fed;
+      rests = λ r here h a all. weaker came.0 (on_made_all Still IsTimely still_steps (λ id. tt) w n f all (λ node e there. there));
+      fed = λ r here calm h a fine kept. (made_fine w n f fine same_keeps).fed;
       keeps = λ rests. says.1;
       bound = λ r a rule. bound r rule;
       tells = λ r t. on_made_by (λ o. TellsOf r (Verb.AtNode n what) o.1.events) w n f refl (λ node known. refl);
@@ -63,8 +63,8 @@ node_row_of w n (NodeVerb.Crash out) =
     let x : Outcome = (dropped n out w, done (down_lines n None w)) in let why : Option Cause = first_cause (crash_causes w n) in let came : Outcome = crash_step w n out in
     let says : Says IsOk (Same w) came = refused_says IsOk (Same w) w x why no_ok (unchanged w) (tt, λ why e s. cc) in record {
       ranged = λ fits r. unless_ranged w x why r (dropped_ranged n out w r);
-      rests = λ r here a all. weaker came.0 (unless_all Still IsTimely still_steps (λ id. tt) w x why all (dropped_all Still IsTimely still_steps (λ id. tt) n out w all));
-      fed = λ fine kept. unless_fed w x why fine.fed (dropped_fine n out w fine).fed;
+      rests = λ r here h a all. weaker came.0 (unless_all Still IsTimely still_steps (λ id. tt) w x why all (dropped_all Still IsTimely still_steps (λ id. tt) n out w all));
+      fed = λ r here calm h a fine kept. unless_fed w x why fine.fed (dropped_fine n out w fine).fed;
       keeps = λ rests. says.1;
       tells = λ r t. crash_tells r w n out (world_dialed w r t.agrees);
       told = λ r fits t. (crash_answered r.conn_at w 0 t.conns n out, rows_fire (crash_causes w n) w x (tt, (tt, tt)) (ends_calm n None w));
@@ -74,8 +74,8 @@ node_row_of w n (NodeVerb.Crash out) =
     }
 node_row_of w n (NodeVerb.Start uuids) = let x : Outcome = on_made w n (start_at n uuids) in let why : Option Cause = first_cause (start_causes w n uuids) in let told : Told = (start_step w n uuids).1 in record {
   ranged = λ fits r. unless_ranged w x why r (on_made_ranged w n (start_at n uuids) r (λ node here. start_at_ranged n uuids node here));
-  rests = λ r here a all. weaker (start_step w n uuids).0 (start_still w r n uuids a all);
-  fed = λ fine kept. unless_fed w x why fine.fed (made_fine w n (start_at n uuids) fine (start_keeps n uuids)).fed;
+  rests = λ r here h a all. weaker (start_step w n uuids).0 (start_still w r n uuids a all);
+  fed = λ r here calm h a fine kept. unless_fed w x why fine.fed (made_fine w n (start_at n uuids) fine (start_keeps n uuids)).fed;
   keeps = λ rests. (start_says w n uuids).1;
   bound = λ r a rule. bound_down (is_told_down r n) Cause.NodeUp (Cause.UnknownNode ∷ []) _ told rule (λ e. start_refused w (w.nodes n) (drop 2 (start_causes w n uuids)) x (sym (off_as_power w r a n) ∙ e));
   tells = λ r t. start_tells r n w uuids;
@@ -118,67 +118,66 @@ client_row_of w number n c ClientVerb.Hang = answered_row (λ r. IsOk) w (Verb.A
 
 -- ---- links
 
-pub link_row : (w : PlainWorld) (number l m n v buffer : ℕ) → Row w (Verb.Link l m n v buffer) (link_step w number l m n v buffer)
-link_row w number l m n v buffer =
-    let x : Outcome = (with_links w (with_dialed number l m n v buffer w.links (ask_in w n v)), done []) in let why : Option Cause = first_cause (link_causes w l m n v) in let came : Outcome = link_step w number l m n v buffer in
+pub link_row : (w : PlainWorld) (number l m n v buffer : ℕ) (takeover : Bool) → Row w (Verb.Link l m n v buffer takeover) (link_step w number l m n v buffer takeover)
+link_row w number l m n v buffer takeover =
+    let x : Outcome = (with_links w (with_dialed number l m n v buffer takeover w.links (ask_in w n v)), done []) in let why : Option Cause = first_cause (link_causes w l m n v) in let came : Outcome = link_step w number l m n v buffer takeover in
     let says : Says IsOk (Same w) came = refused_says IsOk (Same w) w x why no_ok (unchanged w) (tt, λ why e s. cc) in record {
       ranged = λ fits r. unless_ranged w x why r r;
-      rests = λ r here a all. weaker came.0 (unless_all Still IsTimely still_steps (λ id. tt) w x why all all);
-      fed = λ fine kept. unless_fed w x why fine.fed (dialed_fed w fine number l m n v buffer (ask_in w n v));
+      rests = λ r here h a all. weaker came.0 (unless_all Still IsTimely still_steps (λ id. tt) w x why all all);
+      fed = λ r here calm h a fine kept. unless_fed w x why fine.fed (dialed_fed w fine number l m n v buffer takeover (ask_in w n v));
       keeps = λ rests. says.1;
       tells = λ r t. tell_unless is_none (is_of_end r) why w x refl;
-      told = λ r fits t. (link_answered w r t.agrees t.linked number l m n v buffer, rows_fire (link_causes w l m n v) w x (tt, (tt, (tt, (tt, (tt, tt))))) refl);
+      told = λ r fits t. (link_answered w r t.agrees t.linked number l m n v buffer takeover, rows_fire (link_causes w l m n v) w x (tt, (tt, (tt, (tt, (tt, tt))))) refl);
       entered = λ before r old. dial_entered r l m n v came.1.answer old;
       bound = λ r a rule. bound (is_told_down r m || is_told_down r n) Cause.NodeDown (Cause.UnknownNode ∷ []) _ came.1 rule (λ e.
           link_refused w (not (is_some (w.nodes m) && is_some (w.nodes n))) (is_off (w.nodes m) || is_off (w.nodes n)) (drop 2 (link_causes w l m n v)) x ((λ i. sym (off_as_power w r a m) i || sym (off_as_power w r a n) i) ∙ e));
-      goes = λ r fits ranged calm begins a. told_goes (Verb.Link l m n v buffer) r came (link_goes w r number l m n v buffer fits a);
+      goes = λ r fits ranged calm begins a. told_goes (Verb.Link l m n v buffer takeover) r came (link_goes w r number l m n v buffer takeover fits a);
     }
 
 pub link_row_of : (w : PlainWorld) (l : ℕ) (what : LinkVerb) → Row w (Verb.AtLink l what) (link_verb_step w l what)
 link_row_of w l (LinkVerb.Up wanted) = let f = up_at wanted in let came : Outcome = on_link w l producer_node f in
     let says : Says Anything (Same w) came = on_link_says Anything w l producer_node f (λ why. tt) (λ link node. (tt, λ why e s. cc)) in record {
       ranged = λ fits r. on_link_ranged w l producer_node f r (λ link n node here. up_ranged n wanted link node here);
-      fed = λ fine kept. up_fed w fine kept l wanted;
-      rests = λ r here a all. weaker came.0 (link_still w here all l producer_node f (λ link node at there. up_still (producer_node link) wanted link node at there));
+      fed = λ r here calm h a fine kept. up_fed w fine kept l wanted;
+      rests = λ r here h a all. weaker came.0 (link_still w here all l producer_node f (λ link node at there. up_still (producer_node link) wanted link node at there));
       keeps = λ rests. says.1;
       bound = λ r a rule. over w r l _ came.1 a rule (closed_link_refused w l producer_node f);
       entered = λ before r old. old;
-      tells = λ r t. link_tells w r t.agrees l t.ranged (LinkVerb.Up wanted);
+      tells = λ r t. up_tells w r t.agrees l t.ranged wanted;
       told = λ r fits t. (up_answered w r t.agrees t.linked l wanted, on_link_by (λ o. Spared o.1) w l producer_node f refl (λ link found. refl) (λ link node found known. let here : NodeRanged (producer_node link) node = subst (NodeRangedIf (producer_node link)) known (t.ranged (producer_node link)) in up_calm (producer_node link) wanted link node here.own));
-      goes = λ r fits ranged calm begins a. told_goes (Verb.AtLink l (LinkVerb.Up wanted)) r came (up_goes stays steady w r l wanted ranged calm.0 a);
+      goes = λ r fits ranged calm begins a. told_goes (Verb.AtLink l (LinkVerb.Up wanted)) r came (up_goes stays steady w r l wanted ranged calm.0 (noted_of w r begins) a);
     }
 link_row_of w l (LinkVerb.Down wanted) = let o : Outcome = on_link w l consumer_node (down_in wanted) in let came : Outcome = down_step w l wanted in let found : Option PlainLink = row_at link_number l w.links in record {
   ranged = λ fits r. down_ranged w l found o (on_link_ranged w l consumer_node (down_in wanted) r (λ link n node here. kept_ranged n node (down_in wanted link node).0 refl (λ c. refl) refl here));
-  rests = λ r here a all. down_rests w l wanted (λ link found. (a.1.links link (found_is_link l w.links link found).0).alone) (weaker w all);
-  fed = λ fine kept. (broken_line w l found o (down_fine w fine l wanted)).fed;
+  rests = λ r here h a all. down_rests w l wanted (owns_settled stays w r l wanted a (noted_of w r h) h.free (weaker w all)) (weaker w all);
+  fed = λ r here calm h a fine kept. (broken_line w l found o (down_fine w fine l wanted)).fed;
   keeps = λ rests. (down_line_says w l wanted).1;
-  tells = λ r t. link_tells w r t.agrees l t.ranged (LinkVerb.Down wanted);
-  told = λ r fits t. ((down_answered stays w r l wanted t.agrees (no_rise r l wanted came.1.events (link_tells w r t.agrees l t.ranged (LinkVerb.Down wanted))), down_over w r t.agrees t.linked l wanted), down_fires w r l wanted t.dials);
+  tells = λ r t. tt;
+  told = λ r fits t. ((down_answered stays w r l wanted t.agrees (noted_of w r t.handed) t.handed.free, down_over w r t.agrees t.linked l wanted), down_fires w r l wanted t.dials);
   bound = λ r a rule. over w r l _ came.1 a rule (λ none. ap (λ k. (down_outcome w l k o).1) none ∙ closed_link_refused w l consumer_node (down_in wanted) none);
   entered = λ before r old. moved_entered before r (before.dial_of l) (before.point_of l) (heir_in came.1.events) came.1.events came.1.answer old;
-  goes = λ r fits ranged calm begins a. told_goes (Verb.AtLink l (LinkVerb.Down wanted)) r came (down_goes stays w r l wanted a (no_rise r l wanted came.1.events (link_tells w r a l ranged (LinkVerb.Down wanted))));
+  goes = λ r fits ranged calm begins a. told_goes (Verb.AtLink l (LinkVerb.Down wanted)) r came (down_goes stays w r l wanted a (noted_of w r begins) begins.free);
 }
-link_row_of w l (LinkVerb.Pump frames) = let f = pump_at frames in let came : Outcome = on_link w l producer_node f in
-    let says : Says Anything (Same w) came = on_link_says Anything w l producer_node f (λ why. tt) (λ link node. (tt, (pump_says None frames link node).1)) in record {
-      ranged = λ fits r. on_link_ranged w l producer_node f r (λ link n node here. same_ranged n node (f link node).0.vbs node.made here);
-      fed = λ fine kept. pump_fed w fine kept l frames;
-      rests = λ r here a all. weaker came.0 (link_still w here all l producer_node f (λ link node at there. still_ran (peer_pulled frames (peer_of link)) node.vbs (pulled_tame frames (peer_of link)) there));
-      keeps = λ rests. says.1;
-      bound = λ r a rule. over w r l _ came.1 a rule (closed_link_refused w l producer_node f);
-      entered = λ before r old. old;
-      tells = λ r t. link_tells w r t.agrees l t.ranged (LinkVerb.Pump frames);
-      told = λ r fits t. (pump_answered w r t.agrees t.linked l frames, on_link_by (λ o. Spared o.1) w l producer_node f refl (λ link found. refl) (λ link node found known. pump_calm frames link node));
-      goes = λ r fits ranged calm begins a. told_goes (Verb.AtLink l (LinkVerb.Pump frames)) r came (pump_goes take_snapshots w r l frames a);
-    }
+link_row_of w l (LinkVerb.Pump frames) = let came : Outcome = pump_step w l frames in record {
+  ranged = λ fits r. pump_ranged w l frames r;
+  fed = λ r here calm h a fine kept. pump_fed w l frames take_snapshots stays steady r a here calm.0 (pump_known w r h) fine kept;
+  rests = λ r here h a all. weaker came.0 (pump_still w l frames here all);
+  keeps = λ rests. pump_keeps w l frames;
+  bound = λ r a rule. over w r l _ came.1 a rule (λ none. ap (λ o. (pump_outcome w l frames o).1) none);
+  entered = λ before r old. old;
+  tells = λ r t. tt;
+  told = λ r fits t. (pump_answered w r t.agrees t.linked t.ranged l frames, pump_spared w l frames t.ranged);
+  goes = λ r fits ranged calm begins a. told_goes (Verb.AtLink l (LinkVerb.Pump frames)) r came (pump_came take_snapshots stays steady w r l frames a ranged calm.0 (pump_known w r begins)).goes;
+}
 link_row_of w l LinkVerb.Cut = let found : Option PlainLink = row_at link_number l w.links in
     let says : Says IsOk (Same w) (cut_outcome w found) = elim found as (λ o. Says IsOk (Same w) (cut_outcome w o)) [ None ↦ (tt, λ why e s. (unchanged w, refl)) | Some link ↦ (tt, λ why e s. cc) ] in record {
       ranged = λ fits r. elim found as (λ o. IsRanged (cut_outcome w o).0) [ None ↦ r | Some link ↦ unlinked_ranged w link r ];
-      fed = λ fine kept. (cut_fine w fine l).fed;
-      rests = λ r here a all. elim found as (λ o. InWorld RestsIf (cut_outcome w o).0) [ None ↦ weaker w all | Some link ↦ weaker (unlinked link w) (unlinked_all Still IsTimely still_steps (λ id. tt) w link all) ];
+      fed = λ r here calm h a fine kept. (cut_fine w fine l).fed;
+      rests = λ r here h a all. elim found as (λ o. InWorld RestsIf (cut_outcome w o).0) [ None ↦ weaker w all | Some link ↦ weaker (unlinked link w) (unlinked_all Still IsTimely still_steps (λ id. tt) w link all) ];
       keeps = λ rests. says.1;
       bound = λ r a rule. over w r l _ (cut_step w l).1 a rule (λ none. ap (λ o. (cut_outcome w o).1) none);
       entered = λ before r old. old;
-      tells = λ r t. link_tells w r t.agrees l t.ranged LinkVerb.Cut;
+      tells = λ r t. cut_tells w r t.agrees l;
       told = λ r fits t. (cut_answered w r t.agrees t.linked l, elim found as (λ o. Spared (cut_outcome w o).1) [ None ↦ refl | Some link ↦ refl ]);
       goes = λ r fits ranged calm begins a. told_goes (Verb.AtLink l LinkVerb.Cut) r (cut_step w l) (cut_goes stays w r l a);
     }

@@ -20,6 +20,7 @@ use Rattle.vb_disk.specs.declared.fuse.Fuse.{Fuse}
 use Rattle.vb_disk.specs.declared.fuse.Fuse.TheVariants.{Off, Stop, Fail}
 use Rattle.vb_journal.specs.UnderArms.{all_pass, burnt_noting}
 use Rattle.vb_types.specs.declared.role.Role.TheVariants as role
+use Rattle.transcript_law.proofs.invariant.Holdings.{opened_is}
 
 -- no link has an end at the node n
 abbrev pub NoEnds : ℕ → List PlainLink → Type 0
@@ -64,7 +65,7 @@ module _ (steady : Steady) (w : PlainWorld) (n : ℕ) (free : NoEnds n w.links) 
   }
 
   module _ (node : PlainNode) (used : List ℕ) (r : Chronicle) (c : Cluster) (a : AgreesIn idle (world node used) r c) (up : IsFresh node) (v uuid : ℕ) (vb : Plain) (there : node.vbs v ≡ Some vb) (rests : is_active vb.role ≡ false)
-      (sealed : vb.spans.current ≡ None) (shelf : Shelf) (kept : node.shelves v ≡ Some shelf) (opens : shelf.is_closed ≡ false) (unused : is_one_of uuid used ≡ false) (named : uuid ≡ 0 → ⊥) (small : uuid < 2 ^ 64) where
+      (sealed : (vb.spans.current ≡ None) × (vb.role ≡ role.Pending → ⊥)) (shelf : Shelf) (kept : node.shelves v ≡ Some shelf) (opens : shelf.is_closed ≡ false) (unused : is_one_of uuid used ≡ false) (named : uuid ≡ 0 → ⊥) (small : uuid < 2 ^ 64) where
     abbrev f : Fuse
     f = node.arm.fuse
 
@@ -182,7 +183,7 @@ module _ (steady : Steady) (w : PlainWorld) (n : ℕ) (free : NoEnds n w.links) 
     mine = subst (AgreesAt r n v (c.nodes (seat n v))) known (a.vbs n v)
 
     not_open : with_at branched.open_at n v false ≡ branched.open_at
-    not_open = at_same branched.open_at n v false (mine.opened ∙ ap is_some sealed)
+    not_open = at_same branched.open_at n v false (opened_is vb.role (r.open_at n v) (is_some vb.spans.current) sealed.1 mine.opened ∙ ap is_some sealed.0)
 
     -- with its branch it was told to be at the end of what it holds, and to have counted nothing since
     abbrev last : ℕ

@@ -62,12 +62,12 @@ module _ (stays : StaysSound) (w w' : PlainWorld) (r : Chronicle) (c : Cluster) 
 
   -- the vBucket rests, and all agrees
   pub rested : AgreesIn idle w' rest_lines rest_cluster
-  rested = turned_agrees w w' r rest_lines c rest_cluster n v vb (in_role vb new) a known free became (λ j ne. put_there c.nodes seated (yielded (c.nodes seated)) j ne) (λ i. refl) (λ i q. refl) (λ i. refl)
+  rested = turned_agrees w w' r rest_lines c rest_cluster n v vb (in_role vb new) a known free became (λ j ne. put_there c.nodes seated (yielded (c.nodes seated)) j ne) (λ i. refl) (λ i q. refl) (λ i. refl) (λ i. refl)
       (keeps top c (Move.Yield seated) a.sound tt)
       (all_vbs w w' n v (in_role vb new) (λ m q o. AgreesAt rest_lines m q (rest_cluster.nodes (seat m q)) o) became.here became.there here rest_there)
       (turned_disks w w' r rest_lines c rest_cluster n v vb (in_role vb new) (stream_ids vb.streams) a known became (λ m q. refl) (put_itself c.disks seated) refl)
       (branches_again refl refl (ids_same uuids) a.branches)
-      (turned_rests w w' r rest_lines c rest_cluster n v vb (in_role vb new) a known free became (λ j ne. put_there c.nodes seated (yielded (c.nodes seated)) j ne) (λ i. refl) (λ i q. refl) (λ i. refl)
+      (turned_rests w w' r rest_lines c rest_cluster n v vb (in_role vb new) a known free became (λ j ne. put_there c.nodes seated (yielded (c.nodes seated)) j ne) (λ i. refl) (λ i q. refl) (λ i. refl) (λ i. refl)
       (λ m. refl) refl (role_row r n v new) (λ j ne. put_itself c.disks seated j)) (λ m d. refl) (λ u t. refl) (later_same _ _ refl refl) (λ x p o. absurd o.1.among)
 
 -- a vBucket that becomes active on a new branch
@@ -267,7 +267,7 @@ module _ (steady : Steady) (w w' : PlainWorld) (r : Chronicle) (c : Cluster) (n 
 
   -- the vBucket is active on a new branch, and all agrees in a world with one more id
   pub rose : Turned w w' n v vb' (stream_ids vb.streams) → w'.uuids ≡ w.uuids ++ uuid ∷ [] → AgreesIn idle w' r' c'
-  rose became uuids = turned_agrees w w' r r' c c' n v vb vb' a known free became (λ j ne. put_there c.nodes k (raised m uuid) j ne) (λ i. refl) (λ i q. refl) (λ i. refl) is_sound
+  rose became uuids = turned_agrees w w' r r' c c' n v vb vb' a known free became (λ j ne. put_there c.nodes k (raised m uuid) j ne) (λ i. refl) (λ i q. refl) (λ i. refl) (λ i. refl) is_sound
       (all_vbs w w' n v vb' (λ i q o. AgreesAt r' i q (c'.nodes (seat i q)) o) became.here became.there
       (subst (λ x. VbAgrees r' n v x vb') (sym (put_here c.nodes k (raised m uuid))) (role_here branched n v Active (raised m uuid) vb' refl refl (λ e.
       (record { branch = branch_here; is_told = is_told_here new r.tree; writer = id_here r.writer_of uuid (Some (n, v)); named = named }, alone_counts branched n v, refl, left_risen vb old.sound, untimed (with_at branched.counts_at n v (alone (last_seq 0 (branched.held n v))) n v).times vb'.waiting (left_untimed (image_in vb)))) holds)) there)
@@ -281,7 +281,7 @@ module _ (steady : Steady) (w w' : PlainWorld) (r : Chronicle) (c : Cluster) (n 
         used = λ u e ne. let p = unused u uuid w.uuids (sym (ap (is_one_of u) uuids) ∙ e) in ap (λ t. if t then Some (made m uuid) else branch c.tree u) (ne_eqb uuid u p.1) ∙ a.used u p.0 ne;
         fresh = λ u e. let p = unused u uuid w.uuids (sym (ap (is_one_of u) uuids) ∙ e) in (p.1, a.fresh u p.0);
       })
-      (turned_rests w w' r r' c c' n v vb vb' a known free became (λ j ne. put_there c.nodes k (raised m uuid) j ne) (λ i. refl) (λ i q. refl) (λ i. refl)
+      (turned_rests w w' r r' c c' n v vb vb' a known free became (λ j ne. put_there c.nodes k (raised m uuid) j ne) (λ i. refl) (λ i q. refl) (λ i. refl) (λ i. refl)
       (λ i. refl) refl (λ i q other. role_row branched n v Active i q other ∙ branch_row i q other) (λ j ne. put_itself c.disks k j))
       (λ m d. refl) (λ u t. hist_there new r.tree u (λ e. new_untold uuid r.tree (a.fresh uuid unused_yet) (subst (IsTold r.tree) (sym e) t))) (later_same _ _ refl refl) (λ x p o. absurd (o.0 (left_none vb uuid x old.sound o.1.among)))
 

@@ -21,6 +21,7 @@ use Rattle.transcript_law.proofs.invariant.Agreement.{vb_of, own_history, VbAgre
 use Rattle.transcript_law.proofs.invariant.Carrying.{Changed}
 use Rattle.transcript_law.proofs.invariant.Carried.{agrees_carried, fed_same}
 use Rattle.transcript_law.proofs.verbs.NodeLines.{as_told, risen_anew, node_changed, node_grown, refused_on, agrees_same, node_of_same_vbs, put_same, more_used, admin_by, changed_agrees, on_node_by}
+use Rattle.transcript_law.proofs.invariant.Holdings.{opened_as}
 use Rattle.transcript_law.proofs.verbs.Writing.{mine as own_vb}
 use Rattle.transcript_law.proofs.links.Turning.{Turned}
 use Rattle.transcript_law.proofs.verbs.Leaving.{links_left, cut_lines, cut_off_goes, own_told, same_number, over_agrees, own_found}
@@ -68,14 +69,14 @@ no_fire : (n : ℕ) (told : Answer → Chronicle → Chronicle) (x : Fired) (r :
 no_fire n told x r w said e a = subst (λ y. ArmedCame n told y r w said) (sym e) a
 
 -- what a line has come to in one world it has come to in another, where what agrees in that agrees in this
-other_world : (n : ℕ) (told : Answer → Chronicle → Chronicle) (x : Fired) (r : Chronicle) (w w' : PlainWorld) (said : Answer) → is_up (w'.nodes n) ≡ is_up (w.nodes n) → (Agrees w (told said r) → Agrees w' (told said r))
+pub other_world : (n : ℕ) (told : Answer → Chronicle → Chronicle) (x : Fired) (r : Chronicle) (w w' : PlainWorld) (said : Answer) → is_up (w'.nodes n) ≡ is_up (w.nodes n) → (Agrees w (told said r) → Agrees w' (told said r))
     → ArmedCame n told x r w said → ArmedCame n told x r w' said
 other_world n told fired.No r w w' said up go a = go a
 other_world n told fired.Failed r w w' said up go a = (a.0, go a.1)
 other_world n told fired.Stopped r w w' said up go a = (a.0, up ∙ a.1, go a.2)
 
 -- a link that ends leaves the arms of nodes, and whether they are running
-unlinked_power : (link : PlainLink) (w : PlainWorld) (m : ℕ) → power_of (unlinked link w) m ≡ power_of w m
+pub unlinked_power : (link : PlainLink) (w : PlainWorld) (m : ℕ) → power_of (unlinked link w) m ≡ power_of w m
 unlinked_power link w m = by (w.nodes (producer_node link)) refl
   where
     by : (o : Option PlainNode) → w.nodes (producer_node link) ≡ o → power_in ((node_if (producer_node link) (closed_at link) w o).nodes m) ≡ power_in (w.nodes m)
@@ -83,7 +84,7 @@ unlinked_power link w m = by (w.nodes (producer_node link)) refl
     by (Some node) e = elim (m == producer_node link) as (λ b. (m == producer_node link) ≡ b → power_in (if b then Some (closed_at link node) else w.nodes m) ≡ power_in (w.nodes m))
         [ true ↦ λ t. ap power_in (sym e ∙ ap w.nodes (sym (eqb-true m (producer_node link) t))) | false ↦ λ t. refl ] refl
 
-power_arm : (o : Option PlainNode) (p : Power) → power_in o ≡ Some p → (arm_in o ≡ p.arm) × (is_up o ≡ not (is_some p.off))
+pub power_arm : (o : Option PlainNode) (p : Power) → power_in o ≡ Some p → (arm_in o ≡ p.arm) × (is_up o ≡ not (is_some p.off))
 power_arm None p e = cc
 power_arm (Some node) p e = let same : record { arm = node.arm; off = node.off; clock = node.clock } ≡ p = cc in (ap (λ (x : Power). x.arm) same, ap (λ (x : Power). not (is_some x.off)) same)
 
@@ -456,7 +457,7 @@ module _ (stays : StaysSound) (w w' : PlainWorld) (r : Chronicle) (c : Cluster) 
       holds = holds_fewer 0 (WholeTo vb.floor (with_seal vb.spans) vb.position) (WholeTo vb.floor vb.spans vb.position) (c.nodes (seat n v)).held (own_history r n v) (λ i x. (whole_sealed vb.spans i x.0, x.1, x.2)) old.holds;
     };
     role = old.role;
-    opened = at_here r.open_at n v false;
+    opened = opened_as vb.role (with_at r.open_at n v false n v) false (at_here r.open_at n v false);
     writes = old.writes;
     counts = old.counts;
     lefts = old.lefts;
@@ -472,7 +473,7 @@ module _ (stays : StaysSound) (w w' : PlainWorld) (r : Chronicle) (c : Cluster) 
       (record { tree = refl; writer_of = λ u. refl; row = elsewhere_row m q other }) (fed_same (c.nodes (seat m q))) (vb_of w m q) (λ none. refl) (a.vbs m q)
 
   pub seal_agrees : AgreesIn idle w' sealed c
-  seal_agrees = changed_agrees w w' r sealed c n v vb vb' a known became (record { role = refl; wants = refl; fewer = λ x p o. (o.0, record { among = o.1.among; entry = o.1.entry; same = o.1.same }) }) refl (λ k. refl) (λ k q. refl) (λ k. refl) (λ x i k has s. refl) here elsewhere (λ m q. refl) shelf
+  seal_agrees = changed_agrees w w' r sealed c n v vb vb' a known became (record { role = refl; wants = refl; fewer = λ x p o. (o.0, record { among = o.1.among; entry = o.1.entry; same = o.1.same }) }) refl (λ k. refl) (λ k q. refl) (λ k. refl) (λ k. refl) (λ x i k has s. refl) here elsewhere (λ m q. refl) shelf
       (sealed_disk (r.disk_at n v) (c.disks (seat n v)) (shelf_of w n v) vb vb' refl) (λ m. refl) elsewhere_row (λ m d. refl) (λ d k has. refl) (later_same _ _ refl refl)
 
 node_sealed : StaysSound → (w : PlainWorld) (r : Chronicle) (n v : ℕ) (node : PlainNode) → Agrees w r → w.nodes n ≡ Some node

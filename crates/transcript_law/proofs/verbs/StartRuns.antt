@@ -35,7 +35,7 @@ pub record Ready (node : PlainNode) (v : ℕ) : Type 0 where
   pub vb : Plain
   pub there : node.vbs v ≡ Some vb
   pub rests : is_active vb.role ≡ false
-  pub sealed : vb.spans.current ≡ None
+  pub sealed : (vb.spans.current ≡ None) × (vb.role ≡ role.Pending → ⊥)
   pub shelf : Shelf
   pub kept : node.shelves v ≡ Some shelf
   pub opens : shelf.is_closed ≡ false

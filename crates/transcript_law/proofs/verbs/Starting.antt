@@ -3,7 +3,7 @@ use Rattle.std.specs.Prelude.{◌≡◌, ◌+◌, ◌*◌, ◌<◌, ◌≤◌, �
 use Rattle.transcript_law.proofs.Words.{ℕ, Bool, true, false, List, [], refl, ap, sym, ◌∙◌, subst, arith, inl, ⊎_elim, All, Option, Some, None, not, is_some, length, map, filter, ltb-false, Answer, Role, Cause, Chronicle, Cluster, Event, PlainNode, PlainWorld, Outcome, LawfulFrom}
 use Rattle.transcript_law.proofs.Words.{after_line, after_lines, first_cause, is_active, is_one_of, done, refusal, refused_or, with_branches, with_id, with_node_at, node_outcome}
 use Rattle.transcript_law.proofs.{invariant.Agreement.{Agrees, AgreesIn, IsArm, LineGoes, PowerIs, PowerIsIf, book_in, idle}, disks.Burning.{Fires, Passes, burns, fails_more, opened_all, opened_hit, stops_more}, verbs.NodeLines.{more_used}, invariant.Rearming.{rearmed, told_arm, with_arm_told}, disks.Crashed.{crash_all}, verbs.Crashing.{stopped_agrees}, disks.Disks.{bare, power_in}, disks.Reloaded.{all_there, arm_here, arm_is, away_disk, book, no_ends, reloaded, so}, invariant.Seats.{seat}, verbs.Settling.{Steady}}
-use Rattle.transcript_law.proofs.{disks.Reloading.{loaded_rests}, verbs.Restarting.{fails_to, stops_to}, disks.Shelving.{loaded_at, loaded_of, opened_at_number}, verbs.StartIds.{active_at, active_listed, apart_zip, differ_active, each_active, free_zip, made_zip, ready_zip, was_active_in, zip_long, Each, AllDiffer}}
+use Rattle.transcript_law.proofs.{disks.Reloading.{loaded_rests, loaded_unpended}, verbs.Restarting.{fails_to, stops_to}, disks.Shelving.{loaded_at, loaded_of, opened_at_number}, verbs.StartIds.{active_at, active_listed, apart_zip, differ_active, each_active, free_zip, made_zip, ready_zip, was_active_in, zip_long, Each, AllDiffer}}
 use Rattle.transcript_law.proofs.{verbs.StartRuns.{AllMake, Crashes, Ended, Ready, Started, all_start, behind_is, calls_behind}, verbs.StartTold.{AreStarts, calls_before, arms_behind_starts, same_disks, told_by, up_each}, invariant.Tables.{id_here}}
 use Rattle.transcript_law.proofs.indexers.Beside.{beside}
 use Rattle.branch_model.specs.Journals.{role_of}
@@ -277,7 +277,7 @@ module _ (steady : Steady) (crashes : Crashes) (w : PlainWorld) (r : Chronicle) 
             vb = loaded_by n (saved (last ∷ older));
             there = loaded_at n books books_so v ∙ ap (loaded_of n) e;
             rests = loaded_rests (or_dead (role_of (last ∷ older)));
-            sealed = refl;
+            sealed = (refl, loaded_unpended (or_dead (role_of (last ∷ older))) x);
             shelf = open_shelf (last ∷ older);
             kept = opened_at_number books v ∙ ap (option_map open_shelf) e;
             opens = refl;

@@ -1,17 +1,20 @@
 -- each line of a script answers the sets and removals that it tells of where it tells of them
-use Rattle.std.specs.Prelude.{◌≡◌, ◌∷◌, ◌++◌, if◌then◌else◌}
-use Rattle.transcript_law.proofs.Words.{ℕ, Bool, true, false, List, [], refl, map, take, length, All, Option, Some, None, is_some, Cause, Chronicle, Event, Frame, Role, Verb, VbVerb, NodeVerb, LinkVerb, ClientVerb, AdminCall, AdminResult, PlainLink, PlainNode, PlainWorld, Outcome, Told, VbAnswer, VbCall, VbReply, States, after, after_job, with_states}
-use Rattle.transcript_law.proofs.Words.{admin_call, admin_result, call_at, called_at, cut_off, done, first_cause, moved_len, no_node, node_outcome, on_link, on_node, own_link, peer_of, producer_node, refusal, refused_or, role_outcome, turned_after, turned_if, up_at, verb_step, with_ended, with_node_at}
+use Rattle.std.specs.Prelude.{◌≡◌, ◌∷◌, ◌++◌, ◌==◌, ◌&&◌, ◌||◌, if◌then◌else◌}
+use Rattle.std.specs.List.{flat_map}
+use Rattle.transcript_law.proofs.Words.{ℕ, Bool, true, false, List, [], refl, sym, subst, and_parts, ⊎_elim, map, take, length, All, Option, Some, None, is_some, Cause, Chronicle, Event, Frame, Role, Verb, VbVerb, NodeVerb, LinkVerb, ClientVerb, AdminCall, AdminResult, PlainLink, PlainNode, PlainWorld, Outcome, Told, VbAnswer, VbCall, VbReply, States, after, after_job, with_states}
+use Rattle.transcript_law.proofs.Words.{admin_call, admin_result, call_at, called_at, cut_off, done, first_cause, moved_len, no_node, node_outcome, link_number, on_link, on_node, own_link, peer_of, producer_node, pump_at, refusal, row_at, refused_or, role_outcome, turned_after, turned_if, up_at, verb_step, with_ended, with_node_at}
 use Rattle.disk_journals.specs.{Arms.{opens_all}, Books.{Book}}
 use Rattle.{durability.specs.Chains.{Links, Members}, vb_calls.specs.States.{states_step}}
-use Rattle.node_core.specs.{Admin.{admin_refused, promote_result, role_at, role_noted, role_result}, Calls.{own_lines_if}, Dials.{DialResult, acknowledged_line, dial_due, untold}, Flushing.{FlushResult, flush_at, flush_if, flush_result, settled_by, settled_result}, Loading.{are_short, branch_in, branch_lines_of_reply, start_job, start_result, starts_of}, Peers.{PeerResult, PlainPeer, peer_answered, peer_frames, peer_heard}}
+use Rattle.node_core.specs.{Admin.{admin_refused, promote_result, role_at, role_noted, role_result}, Calls.{own_lines_if}, Dials.{DialResult, acknowledged_line, dial_due, untold}, Flushing.{FlushResult, flush_at, flush_if, flush_result, settled_by, settled_result}, GivingUp.{dead_line, peer_gives_up, resolved_in}, Loading.{are_short, branch_in, branch_lines_of_reply, start_job, start_result, starts_of}, Peers.{PeerResult, PlainPeer, peer_answered, peer_frames, peer_heard}}
 use Rattle.node_world.specs.{Arms.{fired_by, no_arm, placed, under_arm}, Dues.{due_at, due_in, due_of, is_counted}, Links.{dial_of, frame_posted, frame_up, frames_up, untold_peer}, Nodes.{all_posted, bytes_at, chain_causes, chain_line, chain_made, flush_line, tick_line, with_kept, with_posts}}
-use Rattle.node_world.specs.{Power.{Starting, after_fire, burnt_arm, down_lines, first_no, loaded_node, not_opened, opened_at, opening_told, start_at, start_causes, start_if, start_one, start_step, started_by, starts_from, with_arm}, Turns.{posted_at, posted_in, promote_causes, role_called, turn_causes}, Worlds.{arm_in, on_made}}
+use Rattle.node_world.specs.{Power.{Starting, after_fire, burnt_arm, down_lines, first_no, loaded_node, not_opened, opened_at, opening_told, start_at, start_causes, start_if, start_one, start_step, started_by, starts_from, with_arm}, Pumps.{gives_at, with_given, with_gone}, Turns.{posted_at, posted_in, promote_causes, role_called, turn_causes}, World.{pump_outcome, pump_step}, Worlds.{arm_in, on_made}}
+use Rattle.dcp_producer.specs.declared.yields.Yielded.{Yielded}
+use Rattle.vb_types.specs.declared.change.Act.{Act}
 use Rattle.node_world.specs.declared.arm.Fired.{Fired}
 use Rattle.node_world.specs.declared.arm.Fired.TheVariants as fired
-use Rattle.transcript_law.proofs.{lines.Calm.{due_keeps}, lines.Stored.{Gives, durable_settled_lines, gives, is_no_change, next_behind, settled_next, unchanged_next}, lines.StoredSessions.{bytes_next, peer_calm, posts_next}, verbs.NodeLines.{on_made_by, on_node_by}, verbs.Tellings.{are_down, each_told}}
+use Rattle.transcript_law.proofs.{lines.Calm.{due_keeps}, lines.LinkTold.{pump_so}, lines.Stored.{Gives, durable_settled_lines, gives, is_no_change, is_settled, next_behind, settled_next, unchanged_next}, lines.StoredSessions.{bytes_next, peer_calm, posts_next}, verbs.NodeLines.{on_made_by, on_node_by}, verbs.Tellings.{Are, are_also, are_down, are_map, each_told}, verbs.Untaken.{ToldBy}}
 use Rattle.transcript_law.proofs.{answers.Calm.{OfDurable}, verbs.NodeLines.{on_link_by}}
-use Rattle.transcript_law.specs.{AnsweredWrites.{AllToldNext}, LinesTold.{Dial}, Tellings.{TellsOf, at_link, at_vb, is_none, is_of_end, is_of_pull, may_tell}}
+use Rattle.transcript_law.specs.{AnsweredWrites.{AllToldNext}, LinesTold.{Dial, is_durable}, Takeovers.{IsAboutTo, MovesAt, TakesOver, TellsOnly, is_commit, is_of_over, is_own_commit}, Tellings.{TellsOf, at_link, at_vb, is_none, is_of_disk, is_of_down, is_of_end, is_of_pull, may_tell}}
 use Rattle.vb_calls.proofs.{Conduct.{after_always}, JobConduct.{always_bind_job}}
 use Rattle.vb_calls.specs.Flushes.{flush_job, is_refusal, note_role_job, part_job, role_job, role_of_call, role_told_job}
 use Rattle.vb_calls.specs.Jobs.{AlwaysJob, Ended, Job, Call as AsksCall, Request}
@@ -364,11 +367,6 @@ down_test None l wanted line e = none_test line e
 down_test (Some dial) l wanted (Event.Changed m u uuid change) e = e
 down_test (Some dial) l wanted other e = refl
 
-pump_test : (dial : Option Dial) (l frames : ℕ) (line : Event) → at_link dial l (LinkVerb.Pump frames) line ≡ true → is_no_change line ≡ true
-pump_test None l frames line e = none_test line e
-pump_test (Some dial) l frames (Event.Changed m u uuid change) e = e
-pump_test (Some dial) l frames other e = refl
-
 cut_test : (dial : Option Dial) (l : ℕ) (line : Event) → at_link dial l LinkVerb.Cut line ≡ true → is_no_change line ≡ true
 cut_test None l line e = none_test line e
 cut_test (Some dial) l (Event.Changed m u uuid change) e = e
@@ -390,13 +388,86 @@ vb_next w r number n v VbVerb.Stat t = no_change r (Verb.AtVb n v VbVerb.Stat) (
 vb_next w r number n v VbVerb.Log t = no_change r (Verb.AtVb n v VbVerb.Log) (log_test r n v) (verb_step w number (Verb.AtVb n v VbVerb.Log)).1.events t
 vb_next w r number n v VbVerb.Show t = no_change r (Verb.AtVb n v VbVerb.Show) (show_test r n v) (verb_step w number (Verb.AtVb n v VbVerb.Show)).1.events t
 
-pub line_next : (w : PlainWorld) (r : Chronicle) (number : ℕ) (line : Verb) → (let x = (verb_step w number line).1 in TellsOf r line x.events → AllToldNext x.events)
+-- ---- vBuckets that are handed over
+
+-- changes of one that takes over are commits
+own_settled : (n v : ℕ) (line : Event) → is_own_commit n v line ≡ true → is_settled line ≡ true
+own_settled n v (Event.Changed m u uuid change) e = commit_durable change.act (and_parts (is_commit change.act) (m == n && u == v) e).0
+  where
+    commit_durable : (act : Act) → is_commit act ≡ true → is_durable act ≡ true
+    commit_durable (Act.Commit prepared doc deleted) e = refl
+    commit_durable other e = cc
+own_settled n v other e = cc
+
+down_unchanged : (l n v : ℕ) (line : Event) → is_of_down l n v line ≡ true → is_no_change line ≡ true
+down_unchanged l n v (Event.Changed m u uuid change) e = e
+down_unchanged l n v other e = refl
+
+over_unchanged : (l : ℕ) (line : Event) → is_of_over l line ≡ true → is_no_change line ≡ true
+over_unchanged l (Event.Changed m u uuid change) e = e
+over_unchanged l other e = refl
+
+broken_unchanged : (l n : ℕ) (line : Event) → (is_of_over l line || is_of_disk n line) ≡ true → is_no_change line ≡ true
+broken_unchanged l n (Event.Changed m u uuid change) e = e
+broken_unchanged l n other e = refl
+
+end_unchanged : (r : Chronicle) (m : ℕ) (line : Event) → is_of_end r m line ≡ true → is_no_change line ≡ true
+end_unchanged r m (Event.Changed k u uuid change) e = e
+end_unchanged r m other e = refl
+
+module _ (r : Chronicle) (l n v : ℕ) where
+  taking_next : (lines : List Event) → IsAboutTo r l n v lines → AllToldNext lines
+  taking_next lines x = subst AllToldNext (sym x.together) (next_behind x.front (Event.Role n v Role.Pending ∷ x.behind)
+      (unchanged_next x.front (are_also is_no_change (is_of_down l n v) (down_unchanged l n v) x.front x.taken)) (unchanged_next x.behind (are_also is_no_change (is_of_over l) (over_unchanged l) x.behind x.over)))
+
+  owning_next : (lines : List Event) → TakesOver r l n v lines → AllToldNext lines
+  owning_next lines x = subst AllToldNext (sym x.together) (next_behind x.front (Event.Role n v Role.Active ∷ (x.commits ++ x.behind))
+      (unchanged_next x.front (are_also is_no_change (is_of_down l n v) (down_unchanged l n v) x.front x.taken))
+      (next_behind x.commits x.behind (settled_next x.commits (are_also is_settled (is_own_commit n v) (own_settled n v) x.commits x.own))
+      (unchanged_next x.behind (each_told (λ line. is_of_over l line || is_of_disk n line) (is_of_end r) is_no_change (broken_unchanged l n) (λ m stops line e. end_unchanged r m line e) x.behind x.over))))
+
+down_next : (r : Chronicle) (l wanted : ℕ) (lines : List Event) → TellsOnly r (Verb.AtLink l (LinkVerb.Down wanted)) lines → AllToldNext lines
+down_next r l wanted lines t = ⊎_elim (λ told. no_change r (Verb.AtLink l (LinkVerb.Down wanted)) (down_test (r.dial_of l) l wanted) lines told) (λ m. by (r.dial_of l) m) t
+  where
+    by : (dial : Option Dial) → MovesAt r dial l (LinkVerb.Down wanted) lines → AllToldNext lines
+    by None m = absurd m
+    by (Some dial) m = ⊎_elim (λ x. taking_next r l dial.node dial.vb lines x) (λ x. owning_next r l dial.node dial.vb lines x) m
+
+-- one that is given up lets its clients go on, and its frames are no changes
+dead_unchanged : (n : ℕ) (given : List Yielded) → Are is_no_change (map (dead_line n) given)
+dead_unchanged n given = are_map is_no_change (dead_line n) given (λ one. refl)
+
+gave_next : (w : PlainWorld) (frames : ℕ) (link : PlainLink) (o : Option PlainNode) → AllToldNext (gives_at frames link w o).1.events
+gave_next w frames link None = tt
+gave_next w frames link (Some node) =
+    let n : ℕ = producer_node link in let came = after (peer_gives_up frames (peer_of link)) node.vbs in
+    posted (map (dead_line n) came.1.given) (flat_map resolved_in came.1.given) (with_given n came.1.given (with_gone link node came.0 came.1.peer w)) n (unchanged_next (map (dead_line n) came.1.given) (dead_unchanged n came.1.given))
+  where
+    posted : (lines : List Event) (rs : List Resolved) (w3 : PlainWorld) (n : ℕ) → AllToldNext lines → AllToldNext (posted_in n rs (w3, done lines)).1.events
+    posted lines rs w3 n t = by (w3.nodes n)
+      where
+        by : (o : Option PlainNode) → AllToldNext (posted_at n rs w3 (done lines) o).1.events
+        by None = t
+        by (Some node) = next_behind lines (all_posted rs node).1 t (posts_next rs node)
+
+pump_next : (w : PlainWorld) (l frames : ℕ) → AllToldNext (pump_step w l frames).1.events
+pump_next w l frames = by (row_at link_number l w.links)
+  where
+    put : (now : PlainWorld) → AllToldNext (on_link now l producer_node (pump_at frames)).1.events
+    put now = on_link_by (λ o. AllToldNext o.1.events) now l producer_node (pump_at frames) tt (λ link found. tt)
+        (λ link node found known. unchanged_next (pump_at frames link node).1.1.events (pump_so is_no_change link.server.desk (λ start end flags. refl) (λ c. refl) (λ reason. refl) (λ told. refl) frames link node refl))
+
+    by : (o : Option PlainLink) → AllToldNext (pump_outcome w l frames o).1.events
+    by None = tt
+    by (Some link) = let gave = gives_at frames link w (w.nodes (producer_node link)) in next_behind gave.1.events (on_link gave.0 l producer_node (pump_at frames)).1.events (gave_next w frames link (w.nodes (producer_node link))) (put gave.0)
+
+pub line_next : (w : PlainWorld) (r : Chronicle) (number : ℕ) (line : Verb) → (let x = (verb_step w number line).1 in ToldBy r line x.events → AllToldNext x.events)
 line_next w r number (Verb.AtNode n (NodeVerb.Start uuids)) t = start_next w n uuids
 line_next w r number (Verb.AtVb n v what) t = vb_next w r number n v what t
 line_next w r number (Verb.AtClient n c (ClientVerb.Bytes bytes)) t = on_next w n (bytes_at c bytes) (bytes_next c bytes)
 line_next w r number (Verb.AtLink l (LinkVerb.Up wanted)) t = up_next w l wanted
 line_next w r number (Verb.Node n) t = no_change r (Verb.Node n) none_test (verb_step w number (Verb.Node n)).1.events t
-line_next w r number (Verb.Link l m n v buffer) t = no_change r (Verb.Link l m n v buffer) none_test (verb_step w number (Verb.Link l m n v buffer)).1.events t
+line_next w r number (Verb.Link l m n v buffer takeover) t = no_change r (Verb.Link l m n v buffer takeover) none_test (verb_step w number (Verb.Link l m n v buffer takeover)).1.events t
 line_next w r number (Verb.AtNode n (NodeVerb.Clock nanos)) t = no_change r (Verb.AtNode n (NodeVerb.Clock nanos)) none_test (verb_step w number (Verb.AtNode n (NodeVerb.Clock nanos))).1.events t
 line_next w r number (Verb.AtNode n (NodeVerb.Stop k out)) t = no_change r (Verb.AtNode n (NodeVerb.Stop k out)) none_test (verb_step w number (Verb.AtNode n (NodeVerb.Stop k out))).1.events t
 line_next w r number (Verb.AtNode n (NodeVerb.Fail k)) t = no_change r (Verb.AtNode n (NodeVerb.Fail k)) none_test (verb_step w number (Verb.AtNode n (NodeVerb.Fail k))).1.events t
@@ -404,6 +475,6 @@ line_next w r number (Verb.AtNode n (NodeVerb.Crash out)) t = no_change r (Verb.
 line_next w r number (Verb.AtClient n c ClientVerb.Open) t = no_change r (Verb.AtClient n c ClientVerb.Open) none_test (verb_step w number (Verb.AtClient n c ClientVerb.Open)).1.events t
 line_next w r number (Verb.AtClient n c (ClientVerb.Pull wanted)) t = no_change r (Verb.AtClient n c (ClientVerb.Pull wanted)) (pull_test n c) (verb_step w number (Verb.AtClient n c (ClientVerb.Pull wanted))).1.events t
 line_next w r number (Verb.AtClient n c ClientVerb.Hang) t = no_change r (Verb.AtClient n c ClientVerb.Hang) none_test (verb_step w number (Verb.AtClient n c ClientVerb.Hang)).1.events t
-line_next w r number (Verb.AtLink l (LinkVerb.Down wanted)) t = no_change r (Verb.AtLink l (LinkVerb.Down wanted)) (down_test (r.dial_of l) l wanted) (verb_step w number (Verb.AtLink l (LinkVerb.Down wanted))).1.events t
-line_next w r number (Verb.AtLink l (LinkVerb.Pump frames)) t = no_change r (Verb.AtLink l (LinkVerb.Pump frames)) (pump_test (r.dial_of l) l frames) (verb_step w number (Verb.AtLink l (LinkVerb.Pump frames))).1.events t
+line_next w r number (Verb.AtLink l (LinkVerb.Down wanted)) t = down_next r l wanted (verb_step w number (Verb.AtLink l (LinkVerb.Down wanted))).1.events t
+line_next w r number (Verb.AtLink l (LinkVerb.Pump frames)) t = pump_next w l frames
 line_next w r number (Verb.AtLink l LinkVerb.Cut) t = no_change r (Verb.AtLink l LinkVerb.Cut) (cut_test (r.dial_of l) l) (verb_step w number (Verb.AtLink l LinkVerb.Cut)).1.events t

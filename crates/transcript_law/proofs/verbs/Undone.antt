@@ -3,8 +3,8 @@ use Rattle.std.specs.Prelude.{◌≡◌, ◌<◌, ◌≤◌, ◌∷◌}
 use Rattle.transcript_law.proofs.Words.{ℕ, Bool, true, false, List, [], length, refl, ap, sym, ◌∙◌, subst, arith, nat_tests, Option, Some, None, cond, is_some, Answer, Cause, Chronicle, ClientVerb, Event, LinkVerb, Plain, PlainNode, PlainWorld, Span, States, Verb, VbCall, VbVerb, Why}
 use Rattle.transcript_law.proofs.Words.{after_job, after_lines, call_at, list_any, on_node, rises_in, take_snapshots, verb_step, with_vb_at, IsIn, stays, wholes}
 use Rattle.transcript_law.proofs.{disks.Flushed.{flush_came}, invariant.Agreement.{Agrees, VbAgrees, all_rise}, invariant.JobSteps.{call_on, put_found}, invariant.Ranged.{IsRanged, NodeRanged, NodeRangedIf}, invariant.Seats.{seat}}
-use Rattle.transcript_law.proofs.{verbs.FlushLines.{There, disk, mine, some, there_at_vb}, verbs.NodeLines.{on_node_by}, verbs.DownLine.{down_leaves}, verbs.Pumping.{pump_leaves}, verbs.Settling.{steady}, verbs.Unstated.{no_states}}
-use Rattle.transcript_law.specs.TakeoverAnswers.{StateAwaited}
+use Rattle.transcript_law.proofs.{verbs.FlushLines.{There, disk, mine, some, there_at_vb}, verbs.NodeLines.{on_node_by}, verbs.DownLine.{down_leaves}, verbs.Pumping.{pump_leaves}, verbs.Settling.{steady}, noted.{Joint.{Handed, noted_of}, Pumped.{pump_known}}}
+use Rattle.transcript_law.specs.{LawfulAnswers.{IsStill}, TakeoverAnswers.{StateAwaited}}
 use Rattle.transcript_law.specs.Undone.{AllTaken, IsShutFor, LeavesNone, NoneToAcknowledge, NoneToPut, NoneToTake, WaitsForOne, is_taking}
 use Rattle.{node_core.specs.Flushing.{flush_if, flush_result}, node_world.specs.Nodes.{flush_line}, std.specs.List.{find}, std.specs.Prelude.{nat_lt}}
 use Rattle.vb_calls.specs.{Flushes.{batch_of_reply, take_job, taken_job, took}, Flushing.{batch_of, flush_from, unflushed_span}, Jobs.{Ended}, Shelves.{Flush, Idle, Out, Written, Shelves, with_shelf_at}, Spans.{all_spans}}
@@ -81,14 +81,14 @@ none_to_take : (w : PlainWorld) (number : ℕ) (line : Verb) (r : Chronicle) →
 none_to_take w number (Verb.AtVb n v VbVerb.Take) r ranged a z = take_leaves w r n v ranged a z
 none_to_take w number other r ranged a z = tt
 
-none_to_acknowledge : (w : PlainWorld) (number : ℕ) (line : Verb) (r : Chronicle) → Agrees w r → (n : ℕ) → (let x = verb_step w number line in x.1.answer ≡ Answer.Number n → list_any is_taking x.1.events ≡ true → NoneToAcknowledge (after_lines r x.1.events) line)
-none_to_acknowledge w number (Verb.AtLink l (LinkVerb.Down wanted)) r a n z takes = down_leaves stays w r l wanted n a z takes
-none_to_acknowledge w number other r a n z takes = tt
+none_to_acknowledge : (w : PlainWorld) (number : ℕ) (line : Verb) (r : Chronicle) → Handed w r → Agrees w r → (n : ℕ) → (let x = verb_step w number line in x.1.answer ≡ Answer.Number n → list_any is_taking x.1.events ≡ true → NoneToAcknowledge (after_lines r x.1.events) line)
+none_to_acknowledge w number (Verb.AtLink l (LinkVerb.Down wanted)) r h a n z takes = down_leaves stays w r l wanted n a (noted_of w r h) h.free z takes
+none_to_acknowledge w number other r h a n z takes = tt
 
-none_to_put : (w : PlainWorld) (number : ℕ) (line : Verb) (r : Chronicle) → IsRanged w → Agrees w r → (n : ℕ) → (let x = verb_step w number line in x.1.answer ≡ Answer.Pulled n Why.Idle → NoneToPut (after_lines r x.1.events) line)
-none_to_put w number (Verb.AtLink l (LinkVerb.Pump frames)) r ranged a n z = pump_leaves take_snapshots w r l frames n a z
-none_to_put w number (Verb.AtClient n c (ClientVerb.Pull frames)) r ranged a k z = pull_leaves take_snapshots takes_exactly w r n c frames k ranged a z
-none_to_put w number other r ranged a n z = tt
+none_to_put : (w : PlainWorld) (number : ℕ) (line : Verb) (r : Chronicle) → IsRanged w → IsStill r → Handed w r → Agrees w r → (n : ℕ) → (let x = verb_step w number line in x.1.answer ≡ Answer.Pulled n Why.Idle → NoneToPut (after_lines r x.1.events) line)
+none_to_put w number (Verb.AtLink l (LinkVerb.Pump frames)) r ranged calm h a n z = pump_leaves take_snapshots stays steady w r l frames n a ranged calm.0 (pump_known w r h) z
+none_to_put w number (Verb.AtClient n c (ClientVerb.Pull frames)) r ranged calm h a k z = pull_leaves take_snapshots takes_exactly w r n c frames k ranged a z
+none_to_put w number other r ranged calm h a n z = tt
 
 waits_for_one : (w : PlainWorld) (number : ℕ) (line : Verb) (r : Chronicle) → IsRanged w → Agrees w r → (n : ℕ) → (let x = verb_step w number line in x.1.answer ≡ Answer.Pulled n Why.WaitSaved → WaitsForOne (after_lines r x.1.events) line)
 waits_for_one w number (Verb.AtClient n c (ClientVerb.Pull frames)) r ranged a k z = pull_waits take_snapshots takes_exactly w r n c frames k ranged a z
@@ -98,5 +98,6 @@ shut_for : (w : PlainWorld) (number : ℕ) (line : Verb) (r : Chronicle) → IsR
 shut_for w number (Verb.AtClient n c (ClientVerb.Pull frames)) r ranged a k z = pull_shuts take_snapshots takes_exactly w r n c frames k ranged a z
 shut_for w number other r ranged a n z = tt
 
-pub leaves_none : (w : PlainWorld) (number : ℕ) (line : Verb) (r : Chronicle) → IsRanged w → Agrees w r → (let x = verb_step w number line in LeavesNone r line x.1.events x.1.answer)
-leaves_none w number line r ranged a = let x = verb_step w number line in by_answer r line x.1.events x.1.answer (none_to_take w number line r ranged a) (none_to_acknowledge w number line r a) (none_to_put w number line r ranged a) (waits_for_one w number line r ranged a) (shut_for w number line r ranged a) (no_states w number line r ranged a x.1.events)
+pub leaves_none : (w : PlainWorld) (number : ℕ) (line : Verb) (r : Chronicle) → IsRanged w → IsStill r → Handed w r → Agrees w r
+    → (let x = (verb_step w number line).1 in ((n : ℕ) → x.answer ≡ Answer.Pulled n Why.WaitState → StateAwaited r line x.events) → LeavesNone r line x.events x.answer)
+leaves_none w number line r ranged calm h a waits = let x = verb_step w number line in by_answer r line x.1.events x.1.answer (none_to_take w number line r ranged a) (none_to_acknowledge w number line r h a) (none_to_put w number line r ranged calm h a) (waits_for_one w number line r ranged a) (shut_for w number line r ranged a) waits

@@ -16,20 +16,14 @@ use Rattle.transcript_law.proofs.verbs.{Branching.{replica_goes, vb_goes}, Chain
 use Rattle.transcript_law.specs.LawfulAnswers.{IsStill}
 use Rattle.transcript_law.proofs.verbs.{Rows.{Goes, Row, alone_row, answered_row, node_spared, told_goes}, Saving.{save_goes}, Settling.{steady}, Showing.{show_goes}}
 use Rattle.transcript_law.proofs.verbs.{StopTellings.{AreDialed, world_dialed}, VbTellings.{chain_tells, dead_tells, done_tells, follow_tells, log_tells, made_tells, promote_tells, save_tells, seal_tells, show_tells, stat_tells, take_tells, tick_tells}}
-use Rattle.transcript_law.specs.{Chronicles.{ahead}, Firings.{FiresAsSaid, FiresInLine, may_write}, LineAnswers.{IsTaken, KindAnswer, SealsAs, vb_kind}, Tellings.{TellsOf}}
+use Rattle.transcript_law.specs.{Chronicles.{ahead}, Firings.{FiresAsSaid, FiresInLine, may_write}, LineAnswers.{IsTaken, KindAnswer, vb_kind}, Tellings.{TellsOf}}
 use Rattle.transcript_law.specs.LineAnswers as kind
 use Rattle.vb_types.specs.declared.journal.FlushPart.TheVariants as part
 use Rattle.vbucket.specs.Laws.{IsTimely}
 
--- so many are sealed as of a vBucket of any role
-sealed_as : (at : Option (Option Role)) (changed : Bool) (count : ℕ) → count ≡ (if changed then 1 else 0) → SealsAs at changed count
-sealed_as (Some (Some Role.Pending)) true count e = omega (arith, e)
-sealed_as (Some (Some Role.Pending)) false count e = omega (arith, e)
-sealed_as other changed count e = e
-
--- the answer to a line `seal`, where the vBucket may have been told in any role
-pub seal_told : (w : PlainWorld) (r : Chronicle) (n v : ℕ) (at : Option (Option Role)) → AllTold w r → Says (λ told. IsSealed at (r.open_at n v) told.answer) (Same w) (on_node w n (admin_line n v AdminCall.Seal))
-seal_told w r n v at told = admin_says (λ x. IsSealed at (r.open_at n v) x.answer) w n v AdminCall.Seal refl (λ why. tt) (λ vb has. (sealed_as at (r.open_at n v) _ (ap (λ b. if b then 1 else 0) (sym (told.0 n v vb has))), λ why e s. cc))
+-- the answer to a line `seal`
+pub seal_told : (w : PlainWorld) (r : Chronicle) (n v : ℕ) → AllTold w r → Says (λ told. IsSealed (r.role_at n v) (r.open_at n v) told.answer) (Same w) (on_node w n (admin_line n v AdminCall.Seal))
+seal_told w r n v told = admin_says (λ x. IsSealed (r.role_at n v) (r.open_at n v) x.answer) w n v AdminCall.Seal refl (λ why. tt) (λ vb has. (told.0 n v vb has, λ why e s. cc))
 
 module _ (w : PlainWorld) (n v : ℕ) where
   -- what is told of logs behind a line, and that it goes on
@@ -52,8 +46,8 @@ module _ (w : PlainWorld) (n v : ℕ) where
     make_row : (what : VbVerb) → vb_kind what ≡ kind.Notes → ((closed : Bool) → NewShutIs closed w n v → AppendCame NoLines closed w n (on_node w n make)) → EntersBy what → GoesBy what (with_arm n w (on_node w n make)) → ((told : Chronicle) → IsRanged w → AreDialed told w.links → TellsOf told (Verb.AtVb n v what) (with_arm n w (on_node w n make)).1.events) → Row w (Verb.AtVb n v what) (with_arm n w (on_node w n make))
     make_row what notes came entered goes tells = let o : Outcome = on_node w n make in let x : Told = (with_arm n w o).1 in record {
       ranged = λ fits here. armed_ranged n w o (on_node_ranged w n make here (λ node up r. kept_or n node (vb_made n v role uuid node) (first_cause (rows node)) r (kept_ranged n node (vb_made n v role uuid node).0 refl (λ c. refl) refl r)));
-      rests = λ r here a all. made_rests w n v make role uuid (λ node. first_cause (rows node)) (λ node. refl) (weaker w all);
-      fed = λ fine kept. (armed_fine n w o (node_fine w n make fine (λ node. refused_keeps node (vb_made n v role uuid node) (first_cause (rows node)) (made_keeps n v role uuid node)))).fed;
+      rests = λ r here h a all. made_rests w n v make role uuid (λ node. first_cause (rows node)) (λ node. refl) (weaker w all);
+      fed = λ r here calm h a fine kept. (armed_fine n w o (node_fine w n make fine (λ node. refused_keeps node (vb_made n v role uuid node) (first_cause (rows node)) (made_keeps n v role uuid node)))).fed;
       keeps = λ rests. came_keeps NoLines (new_shut_at w n v) w n o.0 o.1 (came (new_shut_at w n v) (λ none. refl));
       bound = λ r a rule. bound_armed w r a n make _ rule;
       told = λ r fits t. noted_told what notes x r (armed_answered NoLines (r.disk_at n v).closed w r n o (t.arms n) (came (r.disk_at n v).closed (t.shut n v).1))
@@ -76,8 +70,8 @@ module _ (w : PlainWorld) (n v : ℕ) where
         → (Lines : List Event → Type 0) → ((closed : Bool) → ShutAgrees closed w n v → AppendCame Lines closed w n turn) → EntersBy what → GoesBy what (with_arm n w turn) → ((told : Chronicle) → IsRanged w → AreDialed told w.links → TellsOf told (Verb.AtVb n v what) (with_arm n w turn).1.events) → Row w (Verb.AtVb n v what) (with_arm n w turn)
     role_row what notes job ends Lines came entered goes tells = let y : Outcome = role_outcome n v asked w in let why : Option Cause = first_cause rows in let x : Told = (with_arm n w turn).1 in record {
       ranged = λ fits here. armed_ranged n w turn (unless_ranged w y why here (role_ranged w n v asked here));
-      rests = λ r here a all. weaker (with_arm n w turn).0 (armed_all Still IsTimely still_steps (λ id. tt) n w turn (unless_all Still IsTimely still_steps (λ id. tt) w y why all (role_still w n v asked here all)));
-      fed = λ fine kept. (armed_fine n w turn (unless_fine w y why fine (role_fine w n v asked ends fine))).fed;
+      rests = λ r here h a all. weaker (with_arm n w turn).0 (armed_all Still IsTimely still_steps (λ id. tt) n w turn (unless_all Still IsTimely still_steps (λ id. tt) w y why all (role_still w n v asked here all)));
+      fed = λ r here calm h a fine kept. (armed_fine n w turn (unless_fine w y why fine (role_fine w n v asked ends fine))).fed;
       keeps = λ rests. came_keeps Lines (shut_at w n v) w n turn.0 turn.1 (came (shut_at w n v) (λ vb e. refl));
       bound = λ r a rule. bound_at w r a n _ x rule (role_refused w n v asked rest);
       told = λ r fits t. noted_told what notes x r (armed_answered Lines (r.disk_at n v).closed w r n turn (t.arms n) (came (r.disk_at n v).closed (t.shut n v).0))
@@ -120,13 +114,13 @@ module _ (w : PlainWorld) (n v : ℕ) where
       (λ r told. on_node_says IsOk w n (tick_line n v) no_ok (λ node known. settled_says n v (VbCall.Tick node.clock) node (λ vb. then_settled (expired node.clock vb)) (λ vb. refl) (λ vb. refl)))
       (λ r fits ranged calm begins a. tick_line_goes stays steady w (record r { ticks = Some (n, v) }) n v refl ranged calm.0 (a.0, beside w r r.conn_at r.made (Some (n, v)) r.changed a.0 (λ one durable i. i) a.1))
   vb_row_of VbVerb.Seal = admin_row VbVerb.Seal AdminCall.Seal refl refl tt (λ before r lines said old. seal_entered r n v said old) (λ told. seal_tells told w n v)
-      (λ r told. seal_told w r n v (r.role_at n v) told) (λ r a. seal_goes stays w r n v a)
+      (λ r told. seal_told w r n v told) (λ r a. seal_goes stays w r n v a)
   vb_row_of VbVerb.Take = answered_row (λ r told. KeptIn w n → IsTaken n v told.events told.answer) w (Verb.AtVb n v VbVerb.Take) n (flush_line n v part.Take) (λ r. (refl, λ told s. s)) (λ before r lines said old. old) (λ fits node up r. flush_ranged n v part.Take node r)
       (flush_still n v part.Take) (flush_keeps n v part.Take) (λ node r. flush_spared n v part.Take (take_taken v) node r.own) (λ told node r. take_tells told w n v node) (λ r told. take_line_says w n v) (λ r t answered. answered (kept_in w n t.ranged)) (λ r fits ranged calm begins a. take_goes stays steady wholes w r n v ranged a)
   vb_row_of VbVerb.Save = let o : Outcome = on_node w n (save_line n v) in let x : Told = (with_arm n w o).1 in record {
     ranged = λ fits here. armed_ranged n w o (on_node_ranged w n (save_line n v) here (λ node up r. save_ranged n v node r));
-    rests = λ r here a all. weaker (with_arm n w o).0 (armed_all Still IsTimely still_steps (λ id. tt) n w o (node_still w here all n (save_line n v) (λ node at there. flush_still n v part.Save (placed v node) (kept_ranged n node (placed v node) refl (λ c. refl) refl at) there)));
-    fed = λ fine kept. (armed_fine n w o (node_fine w n (save_line n v) fine (λ node. flush_keeps n v part.Save (placed v node)))).fed;
+    rests = λ r here h a all. weaker (with_arm n w o).0 (armed_all Still IsTimely still_steps (λ id. tt) n w o (node_still w here all n (save_line n v) (λ node at there. flush_still n v part.Save (placed v node) (kept_ranged n node (placed v node) refl (λ c. refl) refl at) there)));
+    fed = λ r here calm h a fine kept. (armed_fine n w o (node_fine w n (save_line n v) fine (λ node. flush_keeps n v part.Save (placed v node)))).fed;
     keeps = λ rests. came_keeps NoLines (shut_at w n v) w n o.0 o.1 (save_line_came (shut_at w n v) w n v rests (λ vb e. refl));
     bound = λ r a rule. bound_armed w r a n (save_line n v) _ rule;
     told = λ r fits t. let came = save_line_came (r.disk_at n v).closed w n v t.rests (t.shut n v).0 in (
@@ -139,8 +133,8 @@ module _ (w : PlainWorld) (n v : ℕ) where
   }
   vb_row_of VbVerb.Done = let o : Outcome = on_node w n (flush_line n v part.Done) in record {
     ranged = λ fits here. due_ranged n v o (on_node_ranged w n (flush_line n v part.Done) here (λ node up r. flush_ranged n v part.Done node r));
-    rests = λ r here a all. weaker (done_step w n v).0 (due_still n v o (node_still w here all n (flush_line n v part.Done) (flush_still n v part.Done)));
-    fed = λ fine kept. (due_fine n v o (node_fine w n (flush_line n v part.Done) fine (flush_keeps n v part.Done))).fed;
+    rests = λ r here h a all. weaker (done_step w n v).0 (due_still n v o (node_still w here all n (flush_line n v part.Done) (flush_still n v part.Done)));
+    fed = λ r here calm h a fine kept. (due_fine n v o (node_fine w n (flush_line n v part.Done) fine (flush_keeps n v part.Done))).fed;
     keeps = λ rests. (done_line_says w (opens_of w) n v (told_of_opens w)).1;
     bound = λ r a rule. bound_at w r a n _ (done_step w n v).1 rule (done_refused w n v);
     told = λ r fits t. ((done_line_says w r n v t.disks).0, due_fires n v o (node_spared w n (flush_line n v part.Done) t.ranged (λ node r. flush_spared n v part.Done (done_taken v) node r.own)));

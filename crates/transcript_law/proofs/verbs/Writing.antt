@@ -6,9 +6,9 @@ use Rattle.transcript_law.proofs.{invariant.Agreement.{DiskIsIf, shelf_of}, disk
 use Rattle.transcript_law.proofs.Words.{ℕ, Bool, true, false, List, [], refl, ap, sym, ◌∙◌, subst, inl, inr, ⊎_elim, arith, Option, Some, None}
 use Rattle.transcript_law.proofs.Words.{nat_lt, All, cases_lt, nat_tests, All-push, WriteFits, Change, Doc, MAX_SEQ, LogEntry, Picture, image_of, Role, Status, Write, Position, upto, Rises, last_seq, fork_of, HasLast}
 use Rattle.transcript_law.proofs.Words.{append_assoc, HoldsAt, IsFront, Branch, hist, longer, ForksBelow, branch, branch_grow, ground, Member, Cluster, Move, SoundCluster, Leads, happens, start_cases, Own, Span}
-use Rattle.transcript_law.proofs.Words.{last_at, span_of, keeps, is_follower, stream_at, Sound, Plain, newest_branch, is_active, doc_at, growth, write_change, written_doc, new_cas, new_rev, PlainLink}
+use Rattle.transcript_law.proofs.Words.{with_at, with_change, is_some, last_at, span_of, keeps, is_follower, stream_at, Sound, Plain, newest_branch, is_active, doc_at, growth, write_change, written_doc, new_cas, new_rev, PlainLink}
 use Rattle.transcript_law.proofs.Words.{producer_node, consumer_node, PlainNode, PlainWorld, vb_in, is_one_of, Chronicle, after_change, known_history, LawfulChange, option_map, Act, IsIn, Op, holds_push}
-use Rattle.transcript_law.proofs.Words.{last_seq_le, grow_below, hist_grow_own, hist_grow_other, Forks, owned, own_joined, own_grown, act_of}
+use Rattle.transcript_law.proofs.Words.{is_some, with_at, with_change, last_seq_le, grow_below, hist_grow_own, hist_grow_other, Forks, owned, own_joined, own_grown, act_of}
 use Rattle.transcript_law.proofs.{invariant.Lefts.{LeftUpTo}, invariant.Seats.{seat, seats_apart}}
 use Rattle.transcript_law.proofs.invariant.Tables.{at_here, at_there, if_known}
 use Rattle.transcript_law.proofs.invariant.Trees.{ids_grow, told_grow, told_below, told_found, new_grow, is_told_grow}
@@ -21,9 +21,10 @@ use Rattle.transcript_law.proofs.invariant.Forked.{fork_held}
 use Rattle.transcript_law.proofs.invariant.LinkFeeds.{feeds_same}
 use Rattle.transcript_law.proofs.invariant.Owed.{Fewer, Owed}
 use Rattle.transcript_law.proofs.invariant.Wholes.{WholeTo, joined_opens, spanned_active, whole_before}
-use Rattle.transcript_law.proofs.invariant.Carried.{places, numbers, not_both, kept_same, link_carried, StaysProducer, all_vbs}
+use Rattle.transcript_law.proofs.invariant.Carried.{places, numbers, active_feeds, as_far, link_carried_by, StaysFollower, StaysProducer, all_vbs}
 use Rattle.transcript_law.proofs.invariant.OneLink.{put_here, put_there}
 use Rattle.transcript_law.proofs.{invariant.Agreement.{RestsIn}, verbs.NodeLines.{vb_told}, invariant.Resting.{ends_again, rests_by}}
+use Rattle.transcript_law.proofs.invariant.Holdings.{opened_as}
 use Rattle.transcript_law.proofs.links.Followed.{last_seq_push}
 
 -- the change of a write
@@ -270,7 +271,7 @@ module _ (w : PlainWorld) (r : Chronicle) (cl : Cluster) (n v : ℕ) (node : Pla
             (subst (HoldsAt 0 (WholeTo vb.floor vb.spans vb.position) member.held) own_branch mine.holds));
       };
       role = mine.role;
-      opened = at_here r.open_at n v true ∙ sym (joined_opens vb.spans joined alone);
+      opened = opened_as vb.role (with_at r.open_at n v true n v) (is_some (with_change vb.spans joined alone).current) (at_here r.open_at n v true ∙ sym (joined_opens vb.spans joined alone));
       writes = subst (λ x. WritesIf x after n v member.br) (sym active) (record {
         branch = writer.branch;
         is_told = is_told_grow r.tree member.br change member.br writer.is_told;
@@ -353,29 +354,48 @@ module _ (w : PlainWorld) (r : Chronicle) (cl : Cluster) (n v : ℕ) (node : Pla
       one_of : (m q : ℕ) (x : Plain) → vb_of w m q ≡ Some x → m ≡ n → q ≡ v → x ≡ vb
       one_of m q x e s t = let z : vb_of w m q ≡ Some vb = ap (λ k. vb_of w k q) s ∙ ap (vb_of w n) t ∙ there_is in cc
 
-      follower_apart : (x : PlainLink) → IsLink x w.links → consumer_node x ≡ n → x.consumer.dialed.vb ≡ v → ⊥
-      follower_apart x i s t =
-          let l = a.links x i in
-          let same : l.follower ≡ vb = one_of (consumer_node x) x.consumer.dialed.vb l.follower l.follower_is s t in
-          not_both vb.role active (subst (λ (k : Plain). is_follower k.role ≡ true) same l.follows)
+      -- no member is less far
+      farther : (j : ℕ) → (cl.nodes j).position.at ≤ (later.nodes j).position.at
+      farther j = ⊎_elim
+          (λ e. subst (λ k. (cl.nodes k).position.at ≤ (later.nodes k).position.at) (sym e) (subst (λ (m : Member). member.position.at ≤ m.position.at) (sym (put_here cl.nodes (seat n v) (owned member change))) (omega (arith, member_at, next))))
+          (λ ne. as_far (ap (λ (m : Member). m.position) (put_there cl.nodes (seat n v) (owned member change) j ne)))
+          (numbers j (seat n v))
+
+      -- a link that feeds it is one by which it took its branch over
+      followers : (x : PlainLink) → StaysFollower (vb_of w (consumer_node x) x.consumer.dialed.vb) (vb_of w' (consumer_node x) x.consumer.dialed.vb) (cl.nodes (consumer_seat x)) (later.nodes (consumer_seat x))
+      followers x fv e = ⊎_elim
+          (λ t. let same : fv ≡ vb = one_of (consumer_node x) x.consumer.dialed.vb fv e t.0 t.1 in (
+            grown,
+            ap (λ k. vb_of w' k x.consumer.dialed.vb) t.0 ∙ ap (vb_of w' n) t.1 ∙ changed.here,
+            inr (ap (λ (k : Plain). is_follower k.role) same ∙ active_feeds vb.role active, active_feeds vb.role active),
+          ))
+          (λ o. (fv, changed.there (consumer_node x) x.consumer.dialed.vb o ∙ e, inl (refl, refl, put_there cl.nodes (seat n v) (owned member change) (consumer_seat x) (seats_apart (consumer_node x) x.consumer.dialed.vb n v o))))
+          (places n v (consumer_node x) x.consumer.dialed.vb)
 
       stays : (x : PlainLink) → StaysProducer (vb_of w (producer_node x) x.consumer.dialed.vb) (vb_of w' (producer_node x) x.consumer.dialed.vb) (cl.nodes (producer_seat x)) (later.nodes (producer_seat x)) x
-      stays x p k s e act opened stream = ⊎_elim
+      stays x p k s e feeds opened stream = ⊎_elim
           (λ t. let same : p ≡ vb = one_of (producer_node x) x.consumer.dialed.vb p e t.0 t.1 in (
             grown,
             ap (λ k. vb_of w' k x.consumer.dialed.vb) t.0 ∙ ap (vb_of w' n) t.1 ∙ changed.here,
-            active,
+            ap (λ (y : Plain). y.role) (sym same),
             subst (λ (y : Plain). stream_at k y.streams ≡ Some s) same opened,
             same_br (producer_seat x),
+            λ dead. let z : true ≡ false = sym active ∙ ap (λ (y : Plain). is_active y.role) (sym same) ∙ ap is_active dead in cc,
+            farther (producer_seat x),
           ))
-          (λ o. (p, changed.there (producer_node x) x.consumer.dialed.vb o ∙ e, act, opened, same_br (producer_seat x)))
+          (λ o. (
+            p,
+            changed.there (producer_node x) x.consumer.dialed.vb o ∙ e,
+            refl,
+            opened,
+            same_br (producer_seat x),
+            λ dead. ap (λ (m : Member). m.position) (put_there cl.nodes (seat n v) (owned member change) (producer_seat x) (seats_apart (producer_node x) x.consumer.dialed.vb n v o)),
+            farther (producer_seat x),
+          ))
           (places n v (producer_node x) x.consumer.dialed.vb)
 
       linked : (x : PlainLink) → IsLink x w.links → LinkAgrees w' after later x [] []
-      linked x i = link_carried w w' r after cl later x [] []
-          (λ fv e. (fv, changed.there (consumer_node x) x.consumer.dialed.vb (follower_apart x i) ∙ e, kept_same fv))
-          refl refl refl (put_there cl.nodes (seat n v) (owned member change) (consumer_seat x) (seats_apart (consumer_node x) x.consumer.dialed.vb n v (follower_apart x i)))
-          (stays x) (a.links x i)
+      linked x i = link_carried_by w w' r after cl later x [] [] (followers x) refl refl refl refl (stays x) (a.links x i)
 
       -- what rests beside it
       rest : RestsIn w' after later

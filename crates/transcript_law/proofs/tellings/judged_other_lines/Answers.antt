@@ -11,7 +11,7 @@ use Rattle.transcript_law.specs.TellingRows.{branches_at, changes_here, ends_at,
 pub returns : goal.returns
 returns c = record {
   node = may_not (verb.Node 0) (turns_at 0 0) (λ r. refl) (λ r m. refl);
-  link = λ buffer. may_never (verb.Link 1 0 1 0 buffer) (ends_at 1) (λ r. refl) (λ r m. refl);
+  link = λ buffer takeover. may_never (verb.Link 1 0 1 0 buffer takeover) (ends_at 1) (λ r. refl) (λ r m. refl);
   clock = λ nanos. may_not (verb.AtNode 0 (node_verb.Clock nanos)) changes_here (λ r. refl) (λ r m. refl);
   clock_closes = λ nanos. may_never (verb.AtNode 0 (node_verb.Clock nanos)) (closes 0 1) (λ r. refl) (λ r m. refl);
   stop = λ k out. may_not (verb.AtNode 0 (node_verb.Stop k out)) (stops_at 0) (λ r. refl) (λ r m. refl);
