@@ -26,7 +26,7 @@ LENGTHS = {
     "docs/ARCHITECTURE.md": 350,
     "docs/GUARANTEES.md": 430,
     "docs/KV_ENGINE.md": 100,
-    "docs/PROOFS.md": 515,
+    "docs/PROOFS.md": 520,
     "docs/TWINS.md": 325,
 }
 PAGES = ["README.md", "CONTRIBUTING.md", "CHANGELOG.md", "corpus/README.md", "docs/*.md", "crates/*/README.md"]

@@ -22,7 +22,8 @@ def asked(write: Write) -> str:
 
 def settled(write: Write, it: Settled) -> str:
     """By which change; also where, if that is another branch than the prepare's."""
-    where = "" if it.branch == write.branch else f" of branch {short(it.branch, 6)}, node {it.node}"
+    where = "" if it.node == write.node else f", node {it.node}"
+    where = where if it.branch == write.branch else f" of branch {short(it.branch, 6)}, node {it.node}"
     what = "committed" if it.change.act == "commit" else "aborted"
     return f"{what} by {it.change.seqno}{where}, #{it.group}"
 

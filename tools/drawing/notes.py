@@ -50,6 +50,8 @@ class Notes:
         names = [role for at, role in stage.roles if at == place] or (["active"] if fork else [])
         colour = self.view.colour(stage.positions[place].branch) if names else INK
         on = f" on {short(fork.id)}, from {fork.fork}" if fork else ""
+        on += ": takes over" if "active" in names and place in stage.handed else ""
+        on += ": gives up" if "dead" in names and place in stage.handed else ""
         return [bold(name + on, INK if colour == NONE else colour) for name in names]
 
     def stopping(self, stop: Stop) -> list[Note]:

@@ -12,6 +12,9 @@ LINES = {
     "link 505 3 9 702 0 follow": "Node 9 is to follow vBucket 702 of node 3, over link 505.",
     "link 505 3 9 702 11 follow":
     "Node 9 is to follow vBucket 702 of node 3, over link 505, with a buffer of 11 bytes.",
+    "link 505 3 9 702 0 takeover": "Node 9 is to take over vBucket 702 of node 3, by link 505.",
+    "link 505 3 9 702 11 takeover":
+    "Node 9 is to take over vBucket 702 of node 3, by link 505, with a buffer of 11 bytes.",
     "link 505 3 9 702 1 follow": "Node 9 is to follow vBucket 702 of node 3, over link 505, with a buffer of 1 byte.",
     "up 505 60": "At most 60 bytes of link 505 are to reach its producer.",
     "down 505 70": "At most 70 bytes of link 505 are to reach its consumer.",
@@ -53,7 +56,7 @@ EVENTS = {
     "to 28, are the new branch's own.",
     "role 3 702 active": "vBucket 702 of node 3 is active now, and takes writes.",
     "role 3 702 replica": "vBucket 702 of node 3 is a replica now.",
-    "role 3 702 pending": "vBucket 702 of node 3 is pending.",
+    "role 3 702 pending": "vBucket 702 of node 3 is pending now, and waits to take over.",
     "role 3 702 dead": "vBucket 702 of node 3 is dead now.",
     "change 3 702 1101 21 set 6b 31 32 33 34 1 76":
     'vBucket 702 of node 3 makes change 21 on branch 1101: "k" is set to "v" (CAS 31, revision 32, flags 33, '
@@ -100,6 +103,7 @@ EVENTS = {
     "item L505 23 prepare 6b": 'Link 505 carries change 23: "k" is prepared.',
     "item L505 24 commit 6b": 'Link 505 carries change 24: "k" is committed.',
     "item L505 25 abort 6b": 'Link 505 carries change 25: "k" is aborted.',
+    "fin L505 0": "Link 505 carries its stream's end: the vBucket at its end has taken over.",
     "fin L505 2": "Link 505 carries its stream's end: its vBucket changed its role.",
     "state L505 pending": "Link 505 carries a state: the vBucket at its end is to be pending.",
     "state L505 active": "Link 505 carries a state: the vBucket at its end is to be active.",
@@ -120,8 +124,8 @@ EVENTS = {
     "end L505 cut": "Link 505 ends: it is cut, and the bytes on their way are lost.",
     "end L505 refused": "Link 505 ends: its producer refused.",
     "end L505 protocol": "Link 505 ends: one end sent what the other cannot take.",
-    "end L505 disk": "Link 505 ends: its vBucket could not write down that it goes back.",
-    "end L505 done": "Link 505 ends: its stream reached the end that was asked for.",
+    "end L505 disk": "Link 505 ends: its vBucket could not write down that it goes back, or that it took over.",
+    "end L505 done": "Link 505 ends: its stream came to its end, and its vBucket has taken over.",
     "end L505 state": "Link 505 ends: its stream was ended, as the producer's vBucket changed its role.",
     "shown 3 702 active 1101 24 21 27 5 2":
     "vBucket 702 of node 3 is active on branch 1101, at 24 (inside the snapshot 21 to 27), with 5 documents "
@@ -300,6 +304,8 @@ FRAMES = {
     "commit k --prepared 1 --seqno 2 --vb 3 --opaque 4": 'COMMIT: vBucket 3, prepared 1, seqno 2, key "k", opaque 4',
     "abort k --prepared 1 --seqno 2 --vb 3 --opaque 4": 'ABORT: vBucket 3, prepared 1, seqno 2, key "k", opaque 4',
     "seqno-acknowledged --seqno 1 --vb 2 --opaque 3": "SEQNO-ACKNOWLEDGED: vBucket 2, seqno 1, opaque 3",
+    "set-vbucket-state --state 1 --vb 3 --opaque 4": "SET-VBUCKET-STATE: vBucket 3, state 1, active, opaque 4",
+    "set-vbucket-state --state 3 --vb 4 --opaque 5": "SET-VBUCKET-STATE: vBucket 4, state 3, pending, opaque 5",
     "stream-end --reason 2 --vb 3 --opaque 4":
     "STREAM-END: vBucket 3, reason 2, its vBucket changed its role, opaque 4",
     "set k v --extras 0x010203 --opaque 4": 'SET: extras 3 bytes, where the row has 8, key "k", value "v", opaque 4',
@@ -313,6 +319,19 @@ FRAMES = {
     "answer get-failover-log --status not-my-vbucket --opaque 7": "GET-FAILOVER-LOG answered not-my-vbucket: opaque 7",
     "dcp-noop --opaque 4": "DCP-NOOP: opaque 4",
     "buffer-acknowledgement --bytes 5 --opaque 4": "BUFFER-ACKNOWLEDGEMENT: bytes 5, opaque 4",
+}
+# What a change of role is beside its own sentence, by the line in which it is told.
+HANDING_OVER = {
+    ("pump 505 80", "role 3 702 dead"): [
+        "It is given up: nobody takes writes on its branch until the link's other end takes over."
+    ],
+    ("down 505 70", "role 9 702 active"): [
+        "It takes over, on the branch that it followed, and its chain is its node alone."
+    ],
+    ("down 505 70", "role 9 702 pending"): [],
+    ("dead 3 702", "role 3 702 dead"): [],
+    ("promote 9 702 2202", "role 9 702 active"): [],
+    ("pump 505 80", "mark L505 11 13 1"): [],
 }
 # What is said of writes that wait in corpus/durable/numbers-differ, in its order.
 WAITING = [

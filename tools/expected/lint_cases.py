@@ -1,6 +1,8 @@
 """Lines of scripts, and what lint says of each."""
 
 BRANCH = "a branch id from 0 to 18446744073709551615"
+BUFFER = "a number of bytes from 0 to 4294967295"
+LINKS = "link L M N V BUF follow, or link L M N V BUF takeover"
 VB = "vb N V active U, or vb N V replica"
 
 # Each kind of message, and each kind of place once.
@@ -45,16 +47,16 @@ FAULTS = {
     " wanted is bytes, each two hexadecimal digits: bytes N C HEX",
     b"bytes 0 1 " + b"8" * 41: f'word 4 "{"8" * 40}".. has an odd number of digits, 41;'
     " wanted is bytes, each two hexadecimal digits: bytes N C HEX",
-    b"link 1000 0 1 7 0 follow": 'word 2 "1000" is above 999; wanted is a link from 0 to 999: link L M N V BUF follow',
-    b"link 1 16 1 7 0 follow": 'word 3 "16" is above 15; wanted is a node from 0 to 15: link L M N V BUF follow',
-    b"link 1 0 1 7 4294967296 follow": 'word 6 "4294967296" is above 4294967295;'
-    " wanted is a number of bytes from 0 to 4294967295: link L M N V BUF follow",
-    b"link 1 0 1 7 007 follow": 'word 6 "007" has a needless zero;'
-    " wanted is a number of bytes from 0 to 4294967295: link L M N V BUF follow",
-    b"link 1 0 1 7 follow": 'word 6 "follow" is no number;'
-    " wanted is a number of bytes from 0 to 4294967295: link L M N V BUF follow",
-    b"link 1 0 1 7 0 takeover": 'word 7 "takeover" is none that may stand there;'
-    " wanted is follow: link L M N V BUF follow",
+    b"link 1000 0 1 7 0 follow": f'word 2 "1000" is above 999; wanted is a link from 0 to 999: {LINKS}',
+    b"link 1 16 1 7 0 takeover": f'word 3 "16" is above 15; wanted is a node from 0 to 15: {LINKS}',
+    b"link 1 0 1 7 4294967296 follow": f'word 6 "4294967296" is above 4294967295; wanted is {BUFFER}: {LINKS}',
+    b"link 1 0 1 7 007 follow": f'word 6 "007" has a needless zero; wanted is {BUFFER}: {LINKS}',
+    b"link 1 0 1 7 takeover": f'word 6 "takeover" is no number; wanted is {BUFFER}: {LINKS}',
+    b"link 1 0 1 7 0 Takeover": f'word 7 "Takeover" is not in small letters; wanted is follow or takeover: {LINKS}',
+    b"link 1 0 1 7 0 takeover2": 'word 7 "takeover2" is none that may stand there;'
+    f" wanted is follow or takeover: {LINKS}",
+    b"link 1 0 1 7 0": f"word 7 is missing; wanted is follow or takeover: {LINKS}",
+    b"link 1 0 1 7 0 takeover 0": 'word 8 "0" is one too many; wanted is the line\'s end: link L M N V BUF takeover',
     b"up 1 1000000001": 'word 3 "1000000001" is above 1000000000;'
     " wanted is a number of bytes from 0 to 1000000000: up L B",
     b"pull 0 1 0": 'word 4 "0" is below 1; wanted is a number of frames from 1 to 1000000: pull N C K',
@@ -76,7 +78,8 @@ FAULTS = {
 GOOD = [
     b"node 15", b"vb 15 1023 active 18446744073709551615", b"vb 0 0 active 0", b"chain 0 0", b"chain 15 1023 15 - 0",
     b"clock 0 18446744073709551615", b"client 0 999", b"bytes 0 999 aF", b"link 0 0 0 0 0 follow",
-    b"link 999 15 15 1023 4294967295 follow", b"up 0 1000000000", b"down 999 0", b"pump 999 1000000", b"pump 0 1", b"pull 15 999 1000000", b"pull 0 0 1",
+    b"link 999 15 15 1023 4294967295 follow", b"link 0 0 0 0 0 takeover",
+    b"link 999 15 15 1023 4294967295 takeover", b"up 0 1000000000", b"down 999 0", b"pump 999 1000000", b"pump 0 1", b"pull 15 999 1000000", b"pull 0 0 1",
     b"stop 0 1000000000 fill 255", b"stop 0 0 fill 0", b"fail 0 0", b"crash 0 new", b"start 15", b"start 0" + b" 0" * 64,
 ]  # fmt: skip
 
@@ -117,8 +120,8 @@ NOTES = {
     " CLOSE-STREAM has no value, and this one has 2 bytes",
     OPENED + "@snapshot-marker 3 41": "line 4, note: frame 1, SNAPSHOT-MARKER, will be refused, Einval (0x0004):"
     " no producer takes SNAPSHOT-MARKER",
-    OPENED + "@0x5b 3 41": "line 4, note: frame 1, opcode 0x5b, will be refused, Einval (0x0004):"
-    " no producer takes the opcode 0x5b",
+    OPENED + "@set-vbucket-state 3 41 --state 1": "line 4, note: frame 1, SET-VBUCKET-STATE, will be refused,"
+    " Einval (0x0004): no producer takes SET-VBUCKET-STATE",
     OPENED + "@control 3 41 marker_version 2": "line 4, note: frame 1, CONTROL, will be refused, Einval (0x0004):"
     " CONTROL has no such parameter",
     OPENED + "@control 3 41 connection_buffer_size 007": "line 4, note: frame 1, CONTROL, will be refused,"

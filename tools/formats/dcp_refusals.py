@@ -30,7 +30,7 @@ def form_faults(frame: Frame) -> Iterator[Refusal]:
     """What no producer takes: another message, a datatype, and parts that are not those of the message's row."""
     row, name = frame.row, frame.row.name.upper()
     if row.name not in TAKEN:
-        yield "einval", f"no producer takes {name if row.extras else f'the opcode {row.name}'}"
+        yield "einval", f"no producer takes {name}"
     if frame.datatype:
         yield "einval", f"a client's message of DCP has the datatype 0, and this one has {frame.datatype}"
     if frame.magic == FRAMED and frame.framing:

@@ -28,6 +28,8 @@ def shown(held: bytes) -> str:
 def meaning_of(name: str, value: int) -> str:
     if name in ("end", "snap-end") and value == NO_END:
         return "without end"
+    if name == "state":
+        return f"{value}, {wire.STATES.get(value, 'unknown')}"
     if name == "reason":
         return f"{value}, {wire.REASONS.get(value, 'unknown')}"
     return str(value)

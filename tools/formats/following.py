@@ -47,6 +47,7 @@ class Followed:
             self.histories.take(stage, event)
             self.writes.take(group, event, self.histories)
             if line:
+                self.hand_over(stage, event, line)
                 self.append_to(stage, event, line)
         if line:
             self.writes.after(line, group)
@@ -112,9 +113,20 @@ class Followed:
                 stage.failed.append((place, hit.call))
         return hit is None
 
+    def hand_over(self, stage: Stage, event: Event, line: Line) -> None:
+        """A role that a link's line changes: a state brings it, or its vBucket is given up."""
+        if event.kind != "role" or line.verb not in ("down", "pump"):
+            return
+        if event.role != "pending":
+            stage.handed.append((event.vb, event.node))
+        link = self.histories.link(line["link"])
+        if line.verb == "down" and link not in stage.carried:
+            stage.carried.append(link)
+
     def append_to(self, stage: Stage, event: Event, line: Line) -> None:
-        """What an event lets its vBucket append to its journal, or take for a batch."""
-        if event.kind not in ("role", "branch", "rolled", "batch", "change", "got"):
+        """What an event lets its vBucket append to its journal, or take for a batch; giving up is written nowhere."""
+        is_told = event.kind in ("role", "branch", "rolled", "batch", "change", "got")
+        if not is_told or (event.kind, line.verb) == ("role", "pump"):
             return
         place = event.vb, event.node
         journal, holding, arm = self.journal(place), self.histories.holdings[place], self.arm(event.node)
@@ -131,12 +143,13 @@ class Followed:
             journal.cas = max(journal.cas, vars(event).get("cas", 0))
 
     def on_hit(self, stage: Stage, event: Event, line: Line | None) -> None:
-        """A device call is told as hit. In a `down` it is one of a rollback, which has no line of its own then."""
+        """A device call is told as hit. In a `down` it is one of a rollback, which has no line of its own then, where
+        no vBucket took over in front of it."""
         if line is None:
             if event.kind == "stopped":
                 raise Complaint(f"group #{stage.number}: {NEEDS_SCRIPT}")
             return
-        if line.verb == "down":
+        if line.verb == "down" and not self.hits:
             link = self.histories.link(line["link"])
             if link.consumer == UNKNOWN or link.sent_back is None:
                 raise Complaint(f"group #{stage.number}: a device call is told as hit, and nothing was to be appended")

@@ -107,6 +107,7 @@ LINES = (
     "pull N C K",
     "hang N C",
     "link L M N V BUF follow",
+    "link L M N V BUF takeover",
     "up L B",
     "down L B",
     "pump L K",

@@ -128,6 +128,8 @@ class Stage:
     number: int
     positions: dict[Place, Position] = field(default_factory=dict)
     roles: list[tuple[Place, str]] = field(default_factory=list)
+    # Of these, the vBuckets that are given up, and that take over.
+    handed: list[Place] = field(default_factory=list)
     forks: list[Branch] = field(default_factory=list)
     made: list[tuple[Place, int, Event]] = field(default_factory=list)
     taken: list[tuple[Place, int | None, Event]] = field(default_factory=list)
@@ -165,9 +167,9 @@ class Histories:
     told: Event | None = None
 
     def is_kept(self, vb: int, branch: int, seqno: int) -> bool:
-        """Whether an active vBucket or a replica has a branch's change at the end, or that of one that took it over."""
+        """Whether a vBucket that is not dead has a branch's change at the end, or that of one that took it over."""
         for (of, _), holding in self.holdings.items():
-            has_role = of == vb and holding.position.role in ("active", "replica")
+            has_role = of == vb and holding.position.role in ("active", "pending", "replica")
             if has_role and seqno <= holding.position.at and holding.owner(seqno) == branch:
                 return True
         heirs = (it for it in self.branches.values() if (it.vb, it.parent) == (vb, branch) and seqno in it.taken_over)
@@ -236,7 +238,8 @@ class Histories:
     def on_role(self, stage: Stage, event: Event) -> None:
         place = self.place(event)
         stage.roles.append((place, event.role))
-        self.moved(stage, place, role=event.role)
+        at = self.holdings[place].position.at
+        self.moved(stage, place, role=event.role, **({"start": at, "end": at} if event.role == "active" else {}))
 
     def on_change(self, stage: Stage, event: Event) -> None:
         place = self.place(event)
@@ -306,7 +309,10 @@ class Histories:
         self.moved(stage, place, at=event.to, start=event.to, end=event.to)
 
     def on_end(self, stage: Stage, event: Event) -> None:
-        stage.ended.append((self.links.pop(event.link, Link(event.link)), event))
+        link = self.links.pop(event.link, Link(event.link))
+        # One that gave its vBucket up drops what is acknowledged, and no line tells that it came.
+        link.acks = [] if event.why == "done" else link.acks
+        stage.ended.append((link, event))
 
     def on_ack(self, stage: Stage, event: Event) -> None:
         link = self.link(event.link)

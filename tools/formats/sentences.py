@@ -36,11 +36,16 @@ ENDS = {
     "cut": "it is cut, and the bytes on their way are lost",
     "refused": "its producer refused",
     "protocol": "one end sent what the other cannot take",
-    "disk": "its vBucket could not write down that it goes back",
-    "done": "its stream reached the end that was asked for",
+    "disk": "its vBucket could not write down that it goes back, or that it took over",
+    "done": "its stream came to its end, and its vBucket has taken over",
     "state": "its stream was ended, as the producer's vBucket changed its role",
 }
-ROLES = {"active": "is active now, and takes writes", "replica": "is a replica now", "dead": "is dead now"}
+ROLES = {
+    "active": "is active now, and takes writes",
+    "replica": "is a replica now",
+    "pending": "is pending now, and waits to take over",
+    "dead": "is dead now",
+}
 
 
 def counted(count: int, one: str, more: str) -> str:
@@ -68,8 +73,9 @@ def chain_sentence(line: Line) -> str:
 
 def link_sentence(line: Line) -> str:
     buffer = f", with a buffer of {counted(line['buffer'], 'byte', 'bytes')}" if line["buffer"] else ""
-    ends = f"Node {line['consumer']} is to follow vBucket {line['vb']} of node {line['producer']}"
-    return f"{ends}, over link {line['link']}{buffer}."
+    act = "take over" if line.operands["mode"] == "takeover" else "follow"
+    ends = f"Node {line['consumer']} is to {act} vBucket {line['vb']} of node {line['producer']}"
+    return f"{ends}, {'by' if act == 'take over' else 'over'} link {line['link']}{buffer}."
 
 
 def line_sentence(line: Line) -> str:
@@ -191,6 +197,8 @@ def stream_sentence(event: Event) -> str | None:
             return f"{carrier(event.stream)} a snapshot from {event.start} to {event.end}."
         case "item":
             return f"{carrier(event.stream)} change {event.seqno}: {item_phrase(event)}."
+        case "fin" if isinstance(event.stream, int) and event.reason == 0:
+            return f"{carrier(event.stream)} its stream's end: the vBucket at its end has taken over."
         case "fin":
             whose = "its" if isinstance(event.stream, int) else "a"
             return f"{carrier(event.stream)} {whose} stream's end: {REASONS.get(event.reason, event.reason)}."
@@ -200,6 +208,16 @@ def stream_sentence(event: Event) -> str | None:
         case "end":
             return f"Link {event.link} ends: {ENDS.get(event.why, event.why)}."
     return None
+
+
+def handing_over(line: Line, event: Event) -> list[str]:
+    """What a change of role is in a line that names none: a vBucket is given up, or taken over."""
+    match event.kind, line.verb:
+        case "role", "pump":
+            return ["It is given up: nobody takes writes on its branch until the link's other end takes over."]
+        case "role", "down" if event.role == "active":
+            return ["It takes over, on the branch that it followed, and its chain is its node alone."]
+    return []
 
 
 def vbucket_sentence(event: Event) -> str:

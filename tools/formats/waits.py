@@ -199,7 +199,11 @@ class Waits:
         return []
 
     def on_role(self, event: Event) -> list[str]:
-        self.holder(event.vb, event.node).is_active = event.role == "active"
+        """One that takes over has no branch line in front of its role."""
+        holder = self.holder(event.vb, event.node)
+        if event.role == "active" and not holder.is_active:
+            holder.begin()
+        holder.is_active = event.role == "active"
         return []
 
     def on_change(self, event: Event) -> list[str]:

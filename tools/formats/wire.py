@@ -55,6 +55,7 @@ ROWS = (
     Row("stream-request", 0x53, extras=(("flags", 4), ("reserved", 4), *ASKED), answer_value="log"),
     Row("stream-end", 0x55, extras=(("reason", 4),)),
     Row("snapshot-marker", 0x56, extras=(("start", 8), ("end", 8), ("flags", 4))),
+    Row("set-vbucket-state", 0x5B, extras=(("state", 1),)),
     Row("mutation", 0x57, "key", "value", (*CHANGED, *STORED, *UNUSED)),
     Row("deletion", 0x58, "key", extras=(*CHANGED, ("metadata-length", 2))),
     Row("prepare", 0x60, "key", "value", (*CHANGED, *STORED, *PREPARED)),
@@ -62,7 +63,7 @@ ROWS = (
     Row("commit", 0x62, "key", extras=SETTLED),
     Row("abort", 0x63, "key", extras=SETTLED),
 )
-# The opcodes of DCP. 0x5b, which sets a vBucket's role, is the one without a row.
+# The opcodes of DCP.
 DCP_OPCODES = (0x50, *range(0x52, 0x59), *range(0x5B, 0x5F), *range(0x60, 0x64))
 BY_NAME = {row.name: row for row in ROWS}
 BY_OPCODE = {row.opcode: row for row in ROWS}
@@ -88,6 +89,8 @@ STATUSES = {
     "sync-write-recommit-in-progress": 0xA4,
 }
 FEATURES = {"mutation-seqnos": 0x04, "json": 0x0B, "alternative-requests": 0x10, "sync-replication": 0x11}
+# What a SET_VBUCKET_STATE says.
+STATES = {1: "active", 2: "replica", 3: "pending", 4: "dead"}
 REASONS = {0: "its stream reached the end that was asked for", 2: "its vBucket changed its role"}
 
 

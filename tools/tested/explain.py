@@ -25,7 +25,7 @@ def explained() -> dict[str, bytes]:
         f"tools/expected/{os.path.basename(base)}.explained": tool(
             "explain", path(f"{base}.dcp"), input=content(f"{base}.out")
         )
-        for base in ("examples/durable", "examples/crashed", NUMBERS)
+        for base in ("examples/durable", "examples/crashed", "examples/takeover", NUMBERS)
     }
     ran["tools/expected/numbers-differ.readable"] = tool("frames", "readable", input=content(f"{NUMBERS}.dcp"))
     ran["tools/expected/numbers-differ.pcap"] = tool("pcap", path(f"{NUMBERS}.dcp"), input=content(f"{NUMBERS}.out"))
@@ -79,6 +79,10 @@ class Sentences(unittest.TestCase):
         for text, told in explain_cases.EVENTS.items():
             self.assertEqual(sentences.event_sentence(transcript.event_of(text)), told, text)
         self.assertEqual({text.split(" ")[0] for text in explain_cases.EVENTS}, set(KINDS))
+
+    def test_handing_over(self) -> None:
+        for (text, event), told in explain_cases.HANDING_OVER.items():
+            self.assertEqual(sentences.handing_over(line_of(1, text), transcript.event_of(event)), told, (text, event))
 
     def test_answers(self) -> None:
         for (text, answer), told in explain_cases.ANSWERS.items():

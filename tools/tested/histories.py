@@ -73,6 +73,15 @@ class Followed(unittest.TestCase):
         prepares = [(key, it.seqno, it.level) for key, it in holding.prepares().items()]
         self.assertEqual(prepares, [(it.key, it.seqno, it.level) for it in group.events if it.kind == "prep"], base)
 
+    def test_handed(self) -> None:
+        """Who gives up and who takes over, in which line, and what is written down of that: the heir's role alone."""
+        followed = followed_by(path("examples/takeover"))
+        handed = {stage.number: stage.handed for stage in followed.histories.stages if stage.handed}
+        self.assertEqual(handed, {36: [(7, 0)], 41: [(7, 1)], 66: [(7, 1)]})
+        for node, wanted in ((0, [(4, "active"), (52, "replica"), (75, "active")]), (1, [(5, "replica"), (41, "active"), (79, "replica")])):
+            records = followed.journals[7, node].records()
+            self.assertEqual([(group, it.role) for group, it in records if isinstance(it, State)], wanted)
+
     def test_without_script(self) -> None:
         """Without a script the transcripts in which no node stops are followed, and of others the script is wanted."""
         wanted = 0

@@ -77,6 +77,7 @@ class Marks(unittest.TestCase):
             ("indexer", 7, {(11, 5), (11, 6)}),
             ("indexer", 8, set()),
             ("crashed", 7, {(11, 3), (22, 3), (33, 3), (55, 4)}),
+            ("takeover", 7, set()),
         ):
             told = followed_by(path("examples", name)).histories
             branches = [branch for branch in told.branches.values() if branch.vb == vb]
