@@ -3,8 +3,8 @@
 
     bench/crashes.py SCRIPTS 'COMMAND' 'COMMAND' ['JUDGE']      for example bench/crashes.py 1000 'crates/dcp_main/out/dcp_main run' 'other run'
 
-SCRIPTS is how many scripts are made, of 60 lines each: writes, links, batches, changes of role and restarts over three
-nodes. For each node of a script, each device call that it makes there, and each outcome of a crash, one run stops inside
+SCRIPTS is how many scripts are made, of 60 lines each: writes, links, batches, takeovers, changes of role and restarts
+over three nodes. For each node of a script, each device call that it makes there, and each outcome of a crash, one run stops inside
 that call; one more has the call fail. Behind the last line all nodes are started and shown. A JUDGE is given each script,
 a line `----` and the transcript of the first program, and ends with 0 where that is lawful.
 
@@ -43,6 +43,14 @@ def body(seed: int) -> list[str]:
         number = rolls.randrange(1, 4)
         return [f"link {number} {one} {other} 0 0 follow", f"up {number} 1000", f"pump {number} {rolls.randrange(1, 9)}", f"down {number} 1000"]
 
+    def takeover() -> list[str]:
+        """A vBucket on its way to another node, as far as three rounds go, or fewer; where one has just become active."""
+        one, other = rolls.sample(range(NODES), 2)
+        number = rolls.randrange(1, 4)
+        rounds = [f"pump {number} 9", f"down {number} 1000", f"up {number} 1000"] * rolls.choice([2, 3, 3])
+        asked = [f"cut {number}"] * rolls.randrange(2) + [f"promote {one} 0 {next(uuid)}"] * rolls.randrange(2)
+        return [*asked, f"follow {other} 0", f"link {number} {one} {other} 0 0 takeover", f"up {number} 1000", *rounds]
+
     def moved() -> list[str]:
         number = rolls.randrange(1, 4)
         return [f"up {number} 1000", f"pump {number} {rolls.randrange(1, 9)}", f"down {number} {rolls.choice([60, 200, 1000])}"]
@@ -67,7 +75,7 @@ def body(seed: int) -> list[str]:
         n = rolls.randrange(NODES)
         return [rolls.choice([f"seal {n} 0", f"show {n} 0", f"stat {n} 0", f"bytes {n} {n} {get_frame(b'a', 2)}", f"cut {rolls.randrange(1, 4)}", f"vb {n} 1 active {next(uuid)}"])]
 
-    parts = [link, moved, moved, write, write, write, flush, flush, role, restart, other]
+    parts = [link, takeover, takeover, moved, moved, write, write, write, flush, flush, role, restart, other]
     while len(lines) < LINES - NODES:
         lines += rolls.choice(parts)()
     return lines[: LINES - NODES]
