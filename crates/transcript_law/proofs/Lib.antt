@@ -11,6 +11,7 @@ pub mod disks
 pub mod verbs
 pub mod lines
 pub mod noted
+pub mod heirless
 pub mod balance
 pub mod awaiting
 pub mod ends

@@ -292,8 +292,12 @@ module _ (w : PlainWorld) (r : Chronicle) (line : ScriptLine) (fit : VerbFits li
     agrees = later_agrees;
   }
 
+  -- branches that its lines make are named
+  pub group_fits : (let o = verb_step w line.line line.verb in LinesFit (ahead (at_line r line.line) line.verb o.1.answer) o.1.events)
+  group_fits = fits_of w r0 line.line line.verb (before_of w r line.line line.verb fit x.ranged x.calm x.handed x.agrees) (row.tells r0 told) lines_are later_agrees
+
   -- and its group is lawful
-  group_lawful : LawfulGroup r0 line (record { line = line.line; events = outcome.1.events; answer = outcome.1.answer })
+  pub group_lawful : (let o = verb_step w line.line line.verb in LawfulGroup (at_line r line.line) line (record { line = line.line; events = o.1.events; answer = o.1.answer }))
   group_lawful =
       let hands : HandsOver r0 line.verb outcome.1.events outcome.1.answer = hands_of w r0 line.line line.verb (before_of w r line.line line.verb fit x.ranged x.calm x.handed x.agrees) (row.tells r0 told) in
       let by : ToldBy r0 line.verb outcome.1.events = told_by r0 line.verb outcome.1.events hands.tells in

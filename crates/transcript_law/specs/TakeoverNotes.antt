@@ -64,7 +64,7 @@ turned_after read asked lines l before =
     else if is_ended (stream_over read l (read.dial_of l)) then before
     else before || (turns_feeder (read.dial_of l) lines && not (is_pump_of l asked))
 
--- what is known of its last state, and what was moved up since. A link that is dialed begins anew; so far none is dialed for a takeover
+-- what is known of its last state, and what was moved up since. A link that is dialed begins anew
 abbrev pub obeyed_after : Option Dial → Verb → List Event → Answer → ℕ → TakeoverKnown → TakeoverKnown
 obeyed_after dial (verb.AtLink k (link_verb.Pump wanted)) lines said l t = if k == l && list_any (is_state_of l) lines then with_state t else t
 obeyed_after dial (verb.AtLink k (link_verb.Down wanted)) lines said l t = if k == l && turns_consumer dial lines then with_role t else t

@@ -1,7 +1,7 @@
 //! What a script leaves of its branches.
 
-ghost use Rattle.std.specs.Prelude.{List};
-ghost use Rattle.transcript_law.specs.Heirless.{WritesAsTold};
+ghost use Rattle.std.specs.Prelude.{ℕ, List, ◌++◌};
+ghost use Rattle.transcript_law.specs.Heirless.{IsHeirless, NobodyWrites, WritesAsTold};
 ghost use Rattle.transcript_law.specs.Prefixes.{AreFollowed, known_of, world_of};
 ghost use Rattle.script_text.specs.declared.verb.ScriptLine.{ScriptLine};
 ghost use Rattle.script_text.specs.Fitting.{ScriptFits};
@@ -22,4 +22,10 @@ pub fn branches_are_followed()
 /// vBucket on it, or none.
 pub fn writers_are_as_told()
     ensures { (script : List ScriptLine) → ScriptFits script → WritesAsTold (known_of script) (world_of script) }
+{}
+
+/// A branch without an heir stays so: where nobody is active on it by the lines of a script, and no link may
+/// give it an heir, nobody is active on it after any more lines.
+pub fn heirless_branches_stay()
+    ensures { (script more : List ScriptLine) → ScriptFits (script ++ more) → (uuid : ℕ) → IsHeirless (known_of script) uuid → NobodyWrites (known_of (script ++ more)) (world_of (script ++ more)) uuid }
 {}

@@ -1,4 +1,4 @@
-//! What is lawful where a vBucket goes from one node to another, ahead of scripts in which one does.
+//! What is lawful where a vBucket goes from one node to another.
 
 ghost use Rattle.std.specs.Prelude.{◌≡◌, ◌≤◌, ℕ, true, false, List, [], ◌∷◌, ◌++◌, Option, Some, None};
 ghost use Rattle.transcript_law.specs.Chronicles.{Chronicle, after_branch, after_group, alone, crashed_disk, empty_chronicle, resting};

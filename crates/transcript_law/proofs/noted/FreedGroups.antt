@@ -27,7 +27,7 @@ use Rattle.vb_types.specs.declared.stream.AskAnswer.TheVariants as ask_answer
 -- ---- lines
 
 -- lines dial no link
-line_dials : (r : Chronicle) (line : Event) (l : ℕ) (d : Dial) → (after_line r line).dial_of l ≡ Some d → r.dial_of l ≡ Some d
+pub line_dials : (r : Chronicle) (line : Event) (l : ℕ) (d : Dial) → (after_line r line).dial_of l ≡ Some d → r.dial_of l ≡ Some d
 line_dials r (event.Asked (StreamName.Client n c) m v ask high log said) l d e = e
 line_dials r (event.Asked (StreamName.Link k) m v ask high log ask_answer.Go) l d e = e
 line_dials r (event.Asked (StreamName.Link k) m v ask high log (ask_answer.Roll to)) l d e = e
@@ -194,7 +194,7 @@ verb_freed before r (verb.AtClient n c client_verb.Hang) lines answer.Ok f = qui
 verb_freed before r (verb.AtClient n c client_verb.Hang) lines other f = f
 verb_freed before r other lines said f = f
 
-ahead_dials : (r : Chronicle) (line : Verb) (said : Answer) → (ahead r line said).dial_of ≡ r.dial_of
+pub ahead_dials : (r : Chronicle) (line : Verb) (said : Answer) → (ahead r line said).dial_of ≡ r.dial_of
 ahead_dials r (verb.AtVb n v (vb_verb.Chain others)) answer.Ok = refl
 ahead_dials r (verb.AtVb n v (vb_verb.Chain others)) other = refl
 ahead_dials r (verb.AtVb n v vb_verb.Done) (answer.Number saved) = refl

@@ -1,0 +1,10 @@
+pub mod Barren
+pub mod Lines
+pub mod Groups
+pub mod Whole
+pub mod Begins
+pub mod Turns
+pub mod Tells
+pub mod Starts
+pub mod Adopts
+pub mod Scripts
