@@ -1,0 +1,4 @@
+pub mod Rows
+pub mod Clients
+pub mod Ending
+pub mod Told

@@ -1,0 +1,5 @@
+pub mod Seats
+pub mod Parts
+pub mod Gathered
+pub mod Drained
+pub mod Happening

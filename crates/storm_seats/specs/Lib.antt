@@ -1,0 +1,4 @@
+pub mod Views
+pub mod Gathering
+pub mod Draining
+pub mod Laws
