@@ -22,8 +22,8 @@ LINE, CELL = 100, 200
 # What grows with what it says is read by nobody: a page that says more says something else shorter.
 LENGTHS = {
     "README.md": 150,
-    "CHANGELOG.md": 162,
-    "docs/ARCHITECTURE.md": 350,
+    "CHANGELOG.md": 165,
+    "docs/ARCHITECTURE.md": 353,
     "docs/GUARANTEES.md": 430,
     "docs/KV_ENGINE.md": 100,
     "docs/PROOFS.md": 520,
