@@ -1,4 +1,5 @@
 pub mod Counts
+pub mod Listed
 pub mod Moves
 pub mod Memory
 pub mod Reads

@@ -1,5 +1,5 @@
 -- sources and sinks in memory
-use Rattle.std.specs.Prelude.{◌≡◌, ℕ, Some, true, min, List, [], ◌++◌, length, take, drop}
+use Rattle.std.specs.Prelude.{◌≡◌, ◌≤◌, ℕ, Some, true, min, List, [], ◌++◌, length, take, drop}
 use Rattle.std.specs.List.{Contains}
 use Rattle.dcp_io.specs.Counts.{raised}
 use Rattle.dcp_io.specs.Moves.{Intake, Outlet}
@@ -51,14 +51,14 @@ FailsNext fail calls = Contains fail (raised calls 1)
 
 -- A take from a slice gives what fits of what is left, says the end where nothing is left, and never fails.
 abbrev pub SliceTakes : SliceIntake → SliceIntake → List ℕ → Took → Type 0
-SliceTakes old new room (took.Bytes n) = (n ≡ min (length old.left) (length room)) × (take n room ≡ take n old.left)
+SliceTakes old new room (took.Bytes n) = (1 ≤ n) × (n ≡ min (length old.left) (length room)) × (take n room ≡ take n old.left)
     × (new ≡ record { left = drop n old.left; taken = raised old.taken n; turns = raised old.turns 1 })
 SliceTakes old new room took.End = (old.left ≡ []) × (new ≡ record old { turns = raised old.turns 1 })
 SliceTakes old new room took.Failed = ⊥
 
 -- A take with chosen faults fails at exactly the calls that are listed, and takes nothing there; elsewhere it is as a slice's.
 abbrev pub MemTakes : MemIntake → MemIntake → List ℕ → Took → Type 0
-MemTakes old new room (took.Bytes n) = ¬ FailsNext old.fail old.calls × (n ≡ min (length old.left) (length room)) × (take n room ≡ take n old.left)
+MemTakes old new room (took.Bytes n) = ¬ FailsNext old.fail old.calls × (1 ≤ n) × (n ≡ min (length old.left) (length room)) × (take n room ≡ take n old.left)
     × (new ≡ record old { left = drop n old.left; calls = raised old.calls 1; taken = raised old.taken n })
 MemTakes old new room took.End = ¬ FailsNext old.fail old.calls × (old.left ≡ []) × (new ≡ record old { calls = raised old.calls 1 })
 MemTakes old new room took.Failed = FailsNext old.fail old.calls × (new ≡ record old { calls = raised old.calls 1; faults = raised old.faults 1 })

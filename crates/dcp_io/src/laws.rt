@@ -1,6 +1,9 @@
 //! What counts come to, as numbers, and what is told of an end, each the contract of a function that does nothing.
-ghost use Rattle.std.specs.Prelude.{◌≡◌, ◌^◌, ◌-◌, ◌++◌, ℕ, [], ◌∷◌, decimal};
+ghost use Rattle.std.specs.Prelude.{◌≡◌, ◌^◌, ◌-◌, ◌++◌, ℕ, [], ◌∷◌, List, decimal};
 ghost use Rattle.dcp_io.specs.Counts.{raised};
+ghost use Rattle.dcp_io.specs.Listed.{TakesAreListed, PutsAreListed, TakesInRow, PutsInRow};
+ghost use Rattle.dcp_io.specs.Memory.{MemIntake, MemOutlet, MemTakes, MemPuts};
+ghost use Rattle.dcp_io.specs.{declared.Took.{Took as TheTook}, declared.Put.{Put as ThePut}};
 ghost use Rattle.dcp_io.specs.Statuses.{bad_text, exit_code};
 ghost use Rattle.dcp_io.specs.declared.status.Status.{Status};
 ghost use Rattle.dcp_io.specs.declared.status.Status.TheVariants as status;
@@ -27,4 +30,14 @@ pub fn statuses_in_numbers()
 /// What is written of a bad line, letter by letter: its words, its number and a newline.
 pub fn bad_lines_in_letters()
     ensures { (line : ℕ) → bad_text line ≡ 98 ∷ 97 ∷ 100 ∷ 32 ∷ 108 ∷ 105 ∷ 110 ∷ 101 ∷ 32 ∷ (decimal line ++ 10 ∷ []) }
+{}
+
+/// A source or a sink in memory fails at exactly the calls whose numbers were chosen, counts each,
+/// and neither takes nor appends anything there. Calls are numbered from 1, those that fail among
+/// them; where none is chosen, none fails.
+pub fn chosen_calls_fail()
+    ensures takes { (old new : MemIntake) (room : List ℕ) (answer : TheTook) → MemTakes old new room answer → TakesAreListed old new room answer }
+    ensures puts { (old new : MemOutlet) (bytes : List ℕ) (answer : ThePut) → MemPuts old new bytes answer → PutsAreListed old new bytes answer }
+    ensures takes_in_row { TakesInRow }
+    ensures puts_in_row { PutsInRow }
 {}

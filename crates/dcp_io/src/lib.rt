@@ -18,7 +18,7 @@ mod status;
 
 pub use adapters::{Reading, Writing};
 pub use input::read_all;
-pub use laws::{bad_lines_in_letters, counts_in_numbers, statuses_in_numbers};
+pub use laws::{bad_lines_in_letters, chosen_calls_fail, counts_in_numbers, statuses_in_numbers};
 pub use mem_sink::MemSink;
 pub use mem_source::MemSource;
 pub use memory::{SliceSource, VecSink};

@@ -5,5 +5,6 @@ pub mod Crashes
 pub mod Disks
 pub mod Fused
 pub mod Laws
+pub mod Listed
 pub mod Memory
 pub mod Outcomes

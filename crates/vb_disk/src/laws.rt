@@ -1,5 +1,5 @@
 //! What holds of all disks by their definitions, each the contract of a function that does nothing.
-ghost use Rattle.vb_disk.specs.{Arms.{FiresOnce}, Laws.{IsMadeSettled, OneIsUsed, Rises, WritesAsRead}};
+ghost use Rattle.vb_disk.specs.{Arms.{FiresOnce}, Laws.{IsMadeSettled, OneIsUsed, Rises, WritesAsRead}, Listed.{FailsAsListed}};
 
 /// What is written is read back, and nothing else changes.
 pub fn what_is_written_is_read()
@@ -24,4 +24,9 @@ pub fn arms_fire_once()
 /// A new disk in memory stands as it is, also where nothing was synced yet.
 pub fn new_disks_are_settled()
     ensures { IsMadeSettled }
+{}
+
+/// Which calls of a disk with chosen failures fail.
+pub fn listed_calls_fail()
+    ensures { FailsAsListed }
 {}

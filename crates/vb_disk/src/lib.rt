@@ -1,5 +1,6 @@
 //! Disks: bytes that can be read and written, cut and synced, with their failures counted, and what
-//! a crash may leave of them. There is one in memory, and one in memory under an arm.
+//! a crash may leave of them. There is one in memory, one in memory under an arm, and one in memory
+//! of which chosen calls fail.
 #![tactic(auto)]
 
 ghost use Rattle.std.specs.Prelude.{Option, IfSome, List, ℕ, ◌≡◌, ◌+◌, ◌^◌, ◌<◌, ◌≤◌, length, OnOk, OnErr};
@@ -12,6 +13,7 @@ mod crash_laws;
 mod fuse;
 mod fuse_disk;
 mod laws;
+mod listed_disk;
 mod made;
 mod mem_disk;
 mod room;
@@ -20,9 +22,10 @@ pub use crash_laws::{crashes_in_numbers, cuts_are_filled};
 pub use fuse::Fuse;
 pub use fuse_disk::FuseDisk;
 pub use laws::{
-    arms_fire_once, counts_rise, new_disks_are_settled, one_write_is_used_up,
+    arms_fire_once, counts_rise, listed_calls_fail, new_disks_are_settled, one_write_is_used_up,
     what_is_written_is_read,
 };
+pub use listed_disk::ListedDisk;
 pub use made::Outcome;
 pub use mem_disk::MemDisk;
 use std::alloc::AllocError;

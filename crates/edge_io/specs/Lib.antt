@@ -1,0 +1,5 @@
+pub mod Openings
+pub mod Links
+pub mod Ears
+pub mod Jobs
+pub mod Edges
