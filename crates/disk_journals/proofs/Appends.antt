@@ -1,5 +1,5 @@
 -- what is known of one journal after an append, a read, or where memory was short for one
-use Rattle.std.proofs.Common.{◌≡◌, ◌⊎◌, inl, inr, ℕ, Bool, true, false, List, [], ◌∷◌, ◌++◌, reverse, refl, ap, sym, ◌∙◌, subst, Option, Some, None, IfSome, IfOk, Result, Ok, Err}
+use Rattle.std.proofs.Common.{◌≡◌, ◌⊎◌, inl, inr, ℕ, Bool, true, false, List, [], ◌∷◌, ◌++◌, reverse, refl, ap, sym, ◌∙◌, subst, arith, Option, Some, None, IfSome, IfOk, Result, Ok, Err}
 use Rattle.std.specs.Prelude.{◌&&◌, not, if◌then◌else◌}
 use Rattle.std.specs.Option.{option_map}
 use Rattle.std.proofs.lemmas.List.{reverse-append, reverse-reverse}
@@ -9,14 +9,14 @@ use Rattle.flusher.specs.declared.flusher.Flusher.{Flusher}
 use Rattle.flusher.specs.declared.flusher.Flusher.TheVariants as flusher
 use Rattle.vb_calls.specs.Flushes.{wrote_of}
 use Rattle.vb_calls.specs.declared.journals.Wrote.{Wrote}
-use Rattle.vb_calls.specs.Shelves.{Append, Read, Idle, Book, Shut, Fate, Stood, WasClosed, DiskFailed, Shelf, after_fate, fate_of, late_of, left_book, reading_of}
+use Rattle.vb_calls.specs.Shelves.{Append, Read, Idle, Book, Shut, Fate, Stood, WasClosed, DiskFailed, Shelf, after_fate, fate_of, late_of, left_book, reading_by, reading_of}
 use Rattle.vb_disk.specs.Arms.{hits, is_made, burnt}
 use Rattle.vb_disk.specs.Outcomes.{LeftAlike}
 use Rattle.vb_disk.specs.declared.fuse.Fuse.{Fuse}
 use Rattle.vb_disk.specs.declared.fuse.Fuse.TheVariants.{Off}
 use Rattle.vb_disk.specs.declared.made.Outcome.{Outcome}
 use Rattle.vb_disk.specs.declared.made.Outcome.TheVariants.{New}
-use Rattle.vb_journal.specs.Books.{JournalState, Appended, IsAppended, IsBroken, ReadBack, Rests}
+use Rattle.vb_journal.specs.Books.{JournalState, Appended, IsAppended, IsBroken, ReadBack, Rests, failures_of}
 use Rattle.vb_journal.specs.Receipts.{seq_of}
 use Rattle.vb_journal.specs.Surviving.{OpensTo}
 use Rattle.vb_journal.specs.UnderArms.{all_pass, burnt_both, burnt_noting, both_pass, leaves_open, stands, with_if, AppendLeaves, ArmedBy, KeptByEach, ReadsUnder, StandsUnder}
@@ -25,7 +25,9 @@ use Rattle.vb_journal.specs.declared.fault.AppendFault.TheVariants as fault
 use Rattle.vb_types.specs.declared.journal.Batch.{Batch}
 use Rattle.vb_types.specs.declared.journal.Record.{Record}
 use Rattle.vb_types.specs.declared.journal.Record.TheVariants.{Rows}
-use Rattle.disk_journals.specs.Asking.{Fails, SlotAnswers, SlotUnasked, fate_by, fate_of_wrote, reading_by, reading_in, reading_of_book}
+use Rattle.disk_journals.specs.Anyhow.{AnswersAnyhow}
+use Rattle.disk_journals.specs.Anyhow as anyhow
+use Rattle.disk_journals.specs.Asking.{Fails, AnswersPlainly, SlotAnswers, SlotUnasked, fate_by, fate_of_wrote}
 use Rattle.disk_journals.specs.Devices.{Device, fuse_over}
 use Rattle.disk_journals.specs.Saving.{SavesSlot, SlotSaved, left_by}
 use Rattle.disk_journals.specs.Seen.{Seen, flush_of}
@@ -177,9 +179,46 @@ module _ {D : Type 0} (dev : Device D) (s : Seen D) (j : JournalState D) (what :
   appended (Err (fault.Damaged place)) h burns kept = absurd h
 
 module _ {D : Type 0} (dev : Device D) (s : Seen D) (j : JournalState D) where
+  -- what is known of an append, whatever its disk tells
+  appended_anyhow : (what : Record) (came : Result ℕ AppendFault) → Appended dev.storage s.journal j what came → AnswersAnyhow dev s (Append what) (fate_by came) (record s { journal = j })
+  appended_anyhow what (Ok receipt) h = record {
+    later = h.later;
+    so = record {
+      was_closed = (λ e. cc, λ e. absurd (not_both s.journal.closed e h.was_open));
+      is_open = (λ e. h.stays_open, λ e. refl);
+      failed = λ e. cc;
+      book = λ e. h.book;
+      batch = refl;
+    };
+  }
+  appended_anyhow what (Err fault.Closed) h = record {
+    later = omega (arith, ap (failures_of dev.storage) h.1);
+    so = record {
+      was_closed = (λ e. h.0, λ e. refl);
+      is_open = (λ e. cc, λ e. absurd (not_both j.closed (ap (λ k. k.closed) h.1 ∙ h.0) e));
+      failed = λ e. cc;
+      book = λ e. cc;
+      batch = refl;
+    };
+  }
+  appended_anyhow what (Err fault.DiskFailed) h = record {
+    later = h.later;
+    so = record {
+      was_closed = (λ e. cc, λ e. absurd (not_both s.journal.closed e h.was_open));
+      is_open = (λ e. cc, λ e. absurd (not_both j.closed h.closes e));
+      failed = λ e. h.rose;
+      book = λ e. cc;
+      batch = refl;
+    };
+  }
+  appended_anyhow what (Err (fault.Damaged place)) h = absurd h
+
   -- an append, as a request
   pub append_asked : (what : Record) (came : Result ℕ AppendFault) → Appended dev.storage s.journal j what came → AppendedUnder dev.storage dev.armed dev.left what s.journal j came → SlotAnswers dev s (Append what) (fate_by came) (record s { journal = j })
-  append_asked what came h under shelf stand = appended dev s j what shelf stand under.stands came h under.arm under.kept_by_each
+  append_asked what came h under = record {
+    plainly = λ shelf stand. appended dev s j what shelf stand under.stands came h under.arm under.kept_by_each;
+    anyhow = appended_anyhow what came h;
+  }
 
   -- the same, as it is told
   pub append_told : (old : Seen D) (what : Record) (came : Result ℕ AppendFault) (wrote : Wrote) → s ≡ old → wrote ≡ wrote_of (fate_by came) → Appended dev.storage s.journal j what came
@@ -209,7 +248,13 @@ module _ {D : Type 0} (dev : Device D) (s : Seen D) (j : JournalState D) where
 
   -- memory was short for an append
   pub uncalled_slot : (old : Seen D) → s ≡ old → IsUncalledUnder dev.storage dev.armed dev.left s.journal j → SlotUnasked dev old (record s { journal = j })
-  uncalled_slot old same h = subst (λ o. SlotUnasked dev o (record s { journal = j })) same (λ shelf stand. inl (stand.flush, stands_on shelf stand h.uncalled.closed h.uncalled.book h.uncalled.held h.same_arm h.same_left))
+  uncalled_slot old same h = subst (λ o. SlotUnasked dev o (record s { journal = j })) same (record {
+    plainly = λ shelf stand. inl (stand.flush, stands_on shelf stand h.uncalled.closed h.uncalled.book h.uncalled.held h.same_arm h.same_left);
+    anyhow = record {
+      later = omega (arith, h.uncalled.failures);
+      so = record { answer = refl; rests = record { book = h.uncalled.book; closed = h.uncalled.closed; batch = refl } };
+    };
+  })
 
   -- what a read gives of an open journal
   read_is : (shelf : Shelf) → shelf.is_closed ≡ false → reading_of shelf ≡ Book shelf.book
@@ -233,12 +278,66 @@ module _ {D : Type 0} (dev : Device D) (s : Seen D) (j : JournalState D) where
   told_some None js e f = cc
   told_some (Some held) js e f = cc
 
+  -- what is known of a read, whatever its disk tells
+  rests_anyhow : Rests dev.storage s.journal j → anyhow.Rests s (record s { journal = j })
+  rests_anyhow rests = record { book = rests.book; closed = rests.closed; batch = refl }
+
+  told_back_first : (book : Option (List Record)) (records js : List Record) → IfSome book (λ held. records ≡ held) → Book (reverse records) ≡ Book js → IfSome book (λ held. js ≡ reverse held)
+  told_back_first None records js h e = tt
+  told_back_first (Some held) records js h e = sym (same (reverse records) js e) ∙ ap reverse h
+    where
+      same : (a b : List Record) → Book a ≡ Book b → a ≡ b
+      same a b e = cc
+
+  read_anyhow : (came : Result (List Record) AppendFault) → ReadBack dev.storage s.journal j came → AnswersAnyhow dev s Read (reading_by came) (record s { journal = j })
+  read_anyhow (Ok records) h = record {
+    later = h.1.disk.later;
+    so = record {
+      was_closed = (λ e. cc, λ e. absurd (not_both s.journal.closed e h.0));
+      told = λ book e. told_back_first s.journal.book records book h.2 e;
+      damaged = λ place e. cc;
+      failed = λ e. cc;
+      rests = rests_anyhow h.1;
+    };
+  }
+  read_anyhow (Err fault.Closed) h = record {
+    later = omega (arith, ap (failures_of dev.storage) h.1);
+    so = record {
+      was_closed = (λ e. h.0, λ e. refl);
+      told = λ book e. cc;
+      damaged = λ place e. cc;
+      failed = λ e. cc;
+      rests = record { book = ap (λ k. k.book) h.1; closed = ap (λ k. k.closed) h.1; batch = refl };
+    };
+  }
+  read_anyhow (Err fault.DiskFailed) h = record {
+    later = h.1.disk.later;
+    so = record {
+      was_closed = (λ e. cc, λ e. absurd (not_both s.journal.closed e h.0));
+      told = λ book e. cc;
+      damaged = λ place e. cc;
+      failed = λ e. h.2;
+      rests = rests_anyhow h.1;
+    };
+  }
+  read_anyhow (Err (fault.Damaged place)) h = record {
+    later = h.1.disk.later;
+    so = record {
+      was_closed = (λ e. cc, λ e. absurd (not_both s.journal.closed e h.0));
+      told = λ book e. cc;
+      damaged = λ place e. h.2;
+      failed = λ e. cc;
+      rests = rests_anyhow h.1;
+    };
+  }
+
   -- a read, as a request
   pub read_asked : (old : Seen D) (came : Result (List Record) AppendFault) → s ≡ old → ReadBack dev.storage s.journal j came → dev.armed j.disk ≡ dev.armed s.journal.disk → LeftAlike (dev.left s.journal.disk) (dev.left j.disk) → ReadsUnder (dev.armed s.journal.disk) came
       → SlotAnswers dev old Read (reading_by came) (record s { journal = j })
-  read_asked old came same read arm left given_under = subst (λ o. SlotAnswers dev o Read (reading_by came) (record s { journal = j })) same (by came read given_under)
+  read_asked old came same read arm left given_under =
+      subst (λ o. SlotAnswers dev o Read (reading_by came) (record s { journal = j })) same (record { plainly = by came read given_under; anyhow = read_anyhow came read })
     where
-      by : (came : Result (List Record) AppendFault) → ReadBack dev.storage s.journal j came → ReadsUnder (dev.armed s.journal.disk) came → SlotAnswers dev s Read (reading_by came) (record s { journal = j })
+      by : (came : Result (List Record) AppendFault) → ReadBack dev.storage s.journal j came → ReadsUnder (dev.armed s.journal.disk) came → AnswersPlainly dev s Read (reading_by came) (record s { journal = j })
       by (Ok records) h under shelf stand =
           let open_now : shelf.is_closed ≡ false = sym stand.closed ∙ h.0 in
           inl (given records s.journal.book shelf.book (stand.book open_now) h.2 ∙ sym (read_is shelf open_now), rests_on shelf stand h.1 arm left)
@@ -258,15 +357,11 @@ module _ {D : Type 0} (dev : Device D) (s : Seen D) (j : JournalState D) where
   read_told old (Err e) same read arm left under = tt
 
   -- memory was short for one
-  pub unread_asked : (old : Seen D) → s ≡ old → Rests dev.storage s.journal j → dev.armed j.disk ≡ dev.armed s.journal.disk → LeftAlike (dev.left s.journal.disk) (dev.left j.disk) → SlotAnswers dev old Read (reading_in old) (record s { journal = j })
-  unread_asked old same rests arm left =
-      subst (λ o. SlotAnswers dev o Read (reading_in o) (record s { journal = j })) same (λ shelf stand. inl (by shelf shelf.is_closed refl stand, rests_on shelf stand rests arm left))
-    where
-      by : (shelf : Shelf) (b : Bool) → shelf.is_closed ≡ b → ShelfStands dev s shelf → reading_in s ≡ reading_of shelf
-      by shelf true e stand =
-          ap (λ b. if b then Shut else reading_of_book s.journal.book) (stand.closed ∙ e) ∙ sym (ap (λ b. if b then Shut else Book shelf.book) e)
-      by shelf false e stand =
-          ap (λ b. if b then Shut else reading_of_book s.journal.book) (stand.closed ∙ e) ∙ ap reading_of_book (stand.book e) ∙ ap Book (reverse-reverse shelf.book) ∙ sym (read_is shelf e)
+  pub unread_slot : (old : Seen D) → s ≡ old → Rests dev.storage s.journal j → dev.armed j.disk ≡ dev.armed s.journal.disk → LeftAlike (dev.left s.journal.disk) (dev.left j.disk) → SlotUnasked dev old (record s { journal = j })
+  unread_slot old same rests arm left = subst (λ o. SlotUnasked dev o (record s { journal = j })) same (record {
+    plainly = λ shelf stand. inl (stand.flush, rests_on shelf stand rests arm left);
+    anyhow = record { later = rests.disk.later; so = record { answer = refl; rests = rests_anyhow rests } };
+  })
 
   -- a save
   saved_by : (after : Flusher) (batch : Batch) (came : Result (Unit {0}) AppendFault) → SavedBy dev.storage (Rows batch) after s.journal j came → AppendedUnder dev.storage dev.armed dev.left (Rows batch) s.journal j (append_of (Rows batch) came)

@@ -22,7 +22,8 @@ use Rattle.vb_types.specs.declared.journal.FlushPart.TheVariants as part
 use Rattle.vb_types.specs.declared.journal.Record.{Record}
 use Rattle.vb_types.specs.declared.journal.Record.TheVariants as noted
 use Rattle.vb_types.specs.declared.status.Status.{Status}
-use Rattle.disk_journals.specs.Asking.{disk_asks, IsFailure, failed_at, failed_shelf}
+use Rattle.disk_journals.specs.Asking.{disk_asks, failed_at, failed_shelf}
+use Rattle.vb_calls.specs.Faults.{IsFailure}
 use Rattle.disk_journals.specs.Laws.{broken_off, LeavesShelf, HasLogOfTake, LeavesNoBatch, IsShut, FailsShut, AppendsFirst, RollsAppendFirst}
 use Rattle.disk_journals.specs.Devices.{Device}
 use Rattle.disk_journals.specs.Seen.{Seen}
@@ -145,7 +146,7 @@ module _ {D : Type 0} (dev : Device D) where
   asks_here : (old : List (Seen D)) (v : ℕ) (ask : Ask) (got : Got ask) (new : List (Seen D)) (shelf : Shelf) → disk_asks dev old v ask got new → StandsAt dev old v shelf
       → ((got ≡ (shelf_step shelf ask).1) × StandsAt dev new v (shelf_step shelf ask).0) ⊎ (IsFailure ask got × StandsAt dev new v (failed_shelf shelf ask))
   unfolding disk_asks
-  asks_here old v ask got new shelf asks at = elim (asks at.shelves at.stands) [
+  asks_here old v ask got new shelf asks at = elim (asks.plainly at.shelves at.stands) [
     | inl plain ↦ inl (
       plain.0 ∙ ap (λ (o : Option Shelf). (ask_at at.shelves v ask o).1) at.here,
       stands_at new v at.shelves (shelf_step shelf ask).0 (subst (λ (o : Option Shelf). ShelvesStand dev new (ask_at at.shelves v ask o).0) at.here plain.1),

@@ -15,3 +15,5 @@ pub mod Lawful
 pub mod Rolling
 pub mod Saved
 pub mod Writable
+pub mod Closing
+pub mod OnTheirWay

@@ -23,7 +23,7 @@ none_by : (n len : ℕ) (b : Bool) → nat_lt n len ≡ b → (if b then Some n 
 none_by n len true e none = cc
 none_by n len false e none = grind (arith, nat_tests)
 
-ne-eqb : (a b : ℕ) → a ≢ b → (a == b) ≡ false
+pub ne-eqb : (a b : ℕ) → a ≢ b → (a == b) ≡ false
 ne-eqb a b ne = false_from_ne_true (a == b) (λ e. ne (eqb-true a b e))
 
 module _ {D : Type 0} where

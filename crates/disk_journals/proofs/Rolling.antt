@@ -2,7 +2,7 @@
 use Rattle.std.proofs.Common.{◌≡◌, inr, ℕ, refl, sym, subst, Option, Some, None, Err}
 use Rattle.vb_calls.specs.Flushes.{may_roll_job, read_job, rollable_job}
 use Rattle.vb_calls.specs.Jobs.{Job, Ended, Call, Request, RanJob, BeganJob}
-use Rattle.vb_calls.specs.Shelves.{Ask, Got, Read}
+use Rattle.vb_calls.specs.Shelves.{Ask, Got, Read, reading_by}
 use Rattle.vb_calls.specs.declared.calls.VbAnswer.{VbAnswer}
 use Rattle.vb_calls.specs.declared.calls.VbAnswer.TheVariants as answer
 use Rattle.vb_calls.specs.declared.calls.VbCall.{VbCall}
@@ -13,7 +13,6 @@ use Rattle.vb_calls.specs.declared.journals.Rolled.TheVariants as rolled
 use Rattle.vb_journal.specs.declared.fault.AppendFault.{AppendFault}
 use Rattle.vb_journal.specs.declared.fault.AppendFault.TheVariants as fault
 use Rattle.vb_types.specs.declared.status.Status.{Status}
-use Rattle.disk_journals.specs.Asking.{reading_by}
 use Rattle.disk_journals.specs.Steps.{refusal_in, roll_refusal, unread}
 
 -- by why it is refused, if it is
@@ -28,6 +27,7 @@ may_roll_is v named answer.Nothing = refl
 may_roll_is v named answer.Done = refl
 may_roll_is v named (answer.Flag b) = refl
 may_roll_is v named (answer.Num n) = refl
+may_roll_is v named (answer.Dues seq saved) = refl
 may_roll_is v named (answer.Branch uuid parent fork high) = refl
 may_roll_is v named (answer.Found doc) = refl
 may_roll_is v named (answer.Stored uuid seq cas) = refl

@@ -20,6 +20,11 @@ pub of_err : {T E P : Type 0} (r : Result T E) → P → OnErr r P
 of_err (Ok x) h = tt
 of_err (Err e) h = h
 
+-- what an error says, said otherwise
+pub err_as : {T E P Q : Type 0} (r : Result T E) → (P → Q) → OnErr r P → OnErr r Q
+err_as (Ok x) f h = tt
+err_as (Err e) f h = f h
+
 -- no batch was taken at another stage
 pub rests : (at : Stage) → (at ≡ stage.Idle) ⊎ (at ≡ stage.Written) → at ≡ stage.Out → ⊥
 rests at (inl e) out = cc

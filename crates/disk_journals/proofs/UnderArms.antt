@@ -22,7 +22,7 @@ never (Some s) (Some t) fails = absurd (told s.journal.disk.fuse fails.untold)
 
 pub armed_plain : ArmsAreExact
 unfolding disk_asks
-armed_plain old v ask got new asks shelves stand = elim (asks shelves stand) [ inl plain ↦ plain | inr failed ↦ absurd (never _ _ failed.0) ]
+armed_plain old v ask got new asks shelves stand = elim (asks.plainly shelves stand) [ inl plain ↦ plain | inr failed ↦ absurd (never _ _ failed.0) ]
 
 module _ {W : Type 0} (step : W → ℕ → VbCall → Option VbReply → W → Type 0) where
   -- a job that ran

@@ -1,10 +1,14 @@
 pub mod Arms
 pub mod ArmLaws
+pub mod Anyhow
 pub mod Asking
 pub mod Books
+pub mod Closing
+pub mod Counting
 pub mod Devices
 pub mod InOrder
 pub mod Laws
+pub mod OnTheirWay
 pub mod Opening
 pub mod Seen
 pub mod Saving

@@ -4,9 +4,9 @@ ghost use Rattle.std.specs.VecDeque.{deque_len, deque_capacity};
 ghost use Rattle.disk_journals.specs.Opening.{AreEnded, seen_opened};
 ghost use Rattle.std.specs.Bool.{OnTrue, OnFalse};
 ghost use Rattle.{disk_journals.specs.Seen.{seen_at, has_seen, place_in, flush_at, stage_of}, disk_journals.specs.{Devices.{device, fuse_over}, Stands.{IsBlank, ShelvesStand, blank_under}}};
-ghost use Rattle.disk_journals.specs.Asking.{disk_asks, fate_of_wrote, reading_by};
+ghost use Rattle.disk_journals.specs.{Anyhow.{failures_at}, Asking.{disk_asks, fate_of_wrote}};
 ghost use Rattle.disk_journals.specs.Saving.{SavedAt, UnsavedAt, written_in};
-ghost use Rattle.{vb_calls.specs.Flushes.{wrote_of}, vb_calls.specs.Jobs.{IsUnasked}, vb_calls.specs.Shelves.{Append, Read, Keep, Idle, Out, Got, Reading, Shelves, with_shelf_at}};
+ghost use Rattle.{vb_calls.specs.Flushes.{wrote_of}, vb_calls.specs.Jobs.{IsUnasked}, vb_calls.specs.Shelves.{Append, Read, Keep, Idle, Out, Got, Shelves, reading_by, with_shelf_at}};
 ghost use Rattle.{vb_disk.specs.{Crashes.{IsSettled}, Disks.{IsAsMade}}, vb_journal.specs.Payloads.{is_writable}, vb_types.specs.declared.journal.Record.TheVariants.{Rows}};
 
 use crate::opening::{Disks, OpenJournal};
@@ -104,11 +104,21 @@ impl<D: Disk> DiskJournals<D> {
         }
     }
 
+    /// How often calls of a journal's disk have failed; 0 where there is no such journal.
+    pub(crate) fn count_faults(&self, v: u16) -> u64
+        ensures { result ≡ failures_at (device D.storage D.crashes D.armed D.left_by) self.now v }
+    {
+        match self.place(v) {
+            None => 0,
+            Some(at) => self.slots[at].faults(),
+        }
+    }
+
     /// The records. `Closed` where there is no such journal.
     #[tactic(auto, using(crate::proofs::Asked::asked))]
-    pub(crate) fn records(&mut self, v: u16) -> Result<Result<Records, AppendFault>, AllocError>
+    pub(crate) fn read(&mut self, v: u16) -> Result<Result<Records, AppendFault>, AllocError>
         ensures ok { IfOk result (λ came. disk_asks (device D.storage D.crashes D.armed D.left_by) self.old v Read (reading_by came) self.new) }
-        ensures err { OnErr result ((reading : Reading) × disk_asks (device D.storage D.crashes D.armed D.left_by) self.old v Read reading self.new) }
+        ensures err { OnErr result (IsUnasked (disk_asks (device D.storage D.crashes D.armed D.left_by)) v self.old self.new) }
     {
         match self.place(v) {
             None => Ok(Err(AppendFault::Closed)),

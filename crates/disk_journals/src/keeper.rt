@@ -8,12 +8,25 @@ use crate::rolls::refusal_by;
 use std::alloc::AllocError;
 use vb_calls::{Flushed, Journals, Rolled, VbAccess, VbCall, VbReply, Wrote};
 use vb_disk::Disk;
+use vb_journal::{AppendFault, Records};
 use vb_types::{FlushPart, Record};
 
 impl<D: Disk> Journals for DiskJournals<D> {
-    ghost use Rattle.disk_journals.specs.{Asking.{disk_asks}, Devices.{device}};
+    ghost use Rattle.disk_journals.specs.{Anyhow.{failures_at}, Asking.{disk_asks}, Counting.{disk_counted}, Devices.{device}};
 
     ghost asks = { disk_asks (device D.storage D.crashes D.armed D.left_by) };
+
+    ghost failures = { failures_at (device D.storage D.crashes D.armed D.left_by) };
+
+    ghost counted = { disk_counted (device D.storage D.crashes D.armed D.left_by) };
+
+    fn faults(&self, v: u16) -> u64 {
+        self.count_faults(v)
+    }
+
+    fn records(&mut self, v: u16) -> Result<Result<Records, AppendFault>, AllocError> {
+        self.read(v)
+    }
 
     fn append(&mut self, v: u16, what: &Record) -> Result<Wrote, AllocError> {
         self.note(v, what)

@@ -2,7 +2,7 @@
 //! nothing.
 ghost use Rattle.std.specs.Prelude.{List};
 ghost use Rattle.disk_journals.specs.ArmLaws.{BrokenInNumbers, LeftInNumbers, ListsAll, OpensInNumbers};
-ghost use Rattle.disk_journals.specs.{Devices.{device}, Opening.{FaultsAreHits, OpenedStand}};
+ghost use Rattle.disk_journals.specs.{Closing.{ClosesOnce}, Devices.{device}, OnTheirWay.{BatchesStay}, Opening.{FaultsAreHits, OpenedStand}};
 ghost use Rattle.disk_journals.specs.Laws.{ArmsAreExact, FailsShut, HasLogOfTake, LeavesNoBatch, RollsAppendFirst};
 ghost use Rattle.vb_types.specs.declared.journal.Record.{Record as RecordData};
 
@@ -29,6 +29,18 @@ pub fn batches_go()
 /// After a save whose disk failed the batch is gone, and the journal is closed.
 pub fn failed_saves_shut<A: VbAccess, D: Disk>()
     ensures { FailsShut A.step (device D.storage D.crashes D.armed D.left_by) }
+{}
+
+/// Whatever a disk tells of its bytes: an append and a read find a journal closed exactly where it is
+/// so, it stays closed, and nothing closes it but an append whose disk failed, which was counted.
+pub fn journals_close_once<D: Disk>()
+    ensures { ClosesOnce (device D.storage D.crashes D.armed D.left_by) }
+{}
+
+/// Whatever a disk tells of its bytes: a look tells the batch on its way, and only a journal that is told
+/// to keep another one has another one then. Of a journal that is not there no call failed.
+pub fn batches_stay_on_their_way<D: Disk>()
+    ensures { BatchesStay (device D.storage D.crashes D.armed D.left_by) }
 {}
 
 /// A vBucket goes back only once the record of that stands, and to the seqno that the record names.

@@ -1,6 +1,6 @@
 //! Going back.
-ghost use Rattle.std.specs.Prelude.{◌≡◌, reverse, Option, IfOk, OnErr, OnOk};
-ghost use Rattle.{vb_calls.specs.Flushes.{wrote_of}, vb_calls.specs.Jobs.{IsUnasked}, vb_calls.specs.Shelves.{Append, Idle, Keep}};
+ghost use Rattle.std.specs.Prelude.{◌≡◌, reverse, Option, IfOk, OnErr};
+ghost use Rattle.{vb_calls.specs.Flushes.{rolled_by, wrote_of}, vb_calls.specs.Jobs.{IsUnasked}, vb_calls.specs.Shelves.{Append, Idle, Keep}};
 ghost use Rattle.vb_calls.specs.declared.calls.{VbCall.TheVariants.{RollTo}, VbReply.{VbReply as Told}};
 ghost use Rattle.vb_types.specs.declared.journal.Record.TheVariants.{Roll};
 ghost use Rattle.{disk_journals.specs.Asking.{disk_asks, fate_of_wrote}, disk_journals.specs.Devices.{device}, disk_journals.specs.Steps.{roll_refusal, unread}};
@@ -48,6 +48,29 @@ fn unread(fault: AppendFault) -> Rolled
     }
 }
 
+/// What a vBucket's reply to a rollback says: how far it went back, or why it did not.
+fn rolled_by(reply: Option<VbReply>) -> Rolled
+    ensures { result ≡ rolled_by reply }
+{
+    let said = rolled_in(&reply);
+    drop(reply);
+    said
+}
+
+/// The same, of a reply that stays.
+fn rolled_in(reply: &Option<VbReply>) -> Rolled
+    ensures { result ≡ rolled_by reply.now }
+{
+    let Some(told) = reply else {
+        return Rolled::Refused(Status::NotMyVbucket);
+    };
+    match told.answer {
+        VbAnswer::Num(now) => Rolled::To(now),
+        VbAnswer::Status(status) => Rolled::Refused(status),
+        _ => Rolled::Refused(Status::NotMyVbucket),
+    }
+}
+
 /// Sends a vBucket back to a seqno, with the image there.
 fn send_back<A: VbAccess>(
     v: u16,
@@ -55,12 +78,12 @@ fn send_back<A: VbAccess>(
     image: Image,
     cas: u64,
     vbs: &mut A,
-) -> Result<(), AllocError>
-    ensures ok { OnOk result ((reply : Option Told) × A.step vbs.old v (RollTo to image cas) reply vbs.new) }
+) -> Result<Rolled, AllocError>
+    ensures ok { IfOk result (λ came. (reply : Option Told) × A.step vbs.old v (RollTo to image cas) reply vbs.new × (came ≡ rolled_by reply)) }
     ensures err { OnErr result (vbs.new ≡ vbs.old) }
 {
-    drop(vbs.call(v, VbCall::RollTo { at: to, image, cas })?);
-    Ok(())
+    let reply = vbs.call(v, VbCall::RollTo { at: to, image, cas })?;
+    Ok(rolled_by(reply))
 }
 
 impl<D: Disk> DiskJournals<D> {
@@ -75,7 +98,7 @@ impl<D: Disk> DiskJournals<D> {
         ensures ok { IfOk result (λ came. RanJob A.step (disk_asks (device D.storage D.crashes D.armed D.left_by)) (Request v Read (read_job v to)) vbs.old self.old came vbs.new self.new) }
         ensures err { OnErr result (BeganJob A.step (disk_asks (device D.storage D.crashes D.armed D.left_by)) (Request v Read (read_job v to)) vbs.old self.old vbs.new self.new) }
     {
-        match self.records(v)? {
+        match self.read(v)? {
             Ok(records) => self.roll_by(v, &records, to, vbs),
             Err(fault) => Ok(unread(fault)),
         }
@@ -112,10 +135,7 @@ impl<D: Disk> DiskJournals<D> {
         let cas = cas_of_last(records);
         let image = image_at(self.alloc, records, to)?;
         match self.note_roll(v, to) {
-            Ok(Wrote::Stood) => {
-                self.go_back(v, to, image, cas, vbs)?;
-                Ok(Rolled::To(to))
-            }
+            Ok(Wrote::Stood) => self.go_back(v, to, image, cas, vbs),
             Ok(Wrote::Closed | Wrote::NotAsked) => {
                 drop(image);
                 Ok(Rolled::Closed)
@@ -139,9 +159,9 @@ impl<D: Disk> DiskJournals<D> {
         image: Image,
         cas: u64,
         vbs: &mut A,
-    ) -> Result<(), AllocError>
+    ) -> Result<Rolled, AllocError>
         ensures kept { disk_asks (device D.storage D.crashes D.armed D.left_by) self.old v (Keep Idle) tt self.new }
-        ensures ok { OnOk result ((reply : Option Told) × A.step vbs.old v (RollTo to image cas) reply vbs.new) }
+        ensures ok { IfOk result (λ came. (reply : Option Told) × A.step vbs.old v (RollTo to image cas) reply vbs.new × (came ≡ rolled_by reply)) }
         ensures err { OnErr result (vbs.new ≡ vbs.old) }
     {
         self.discard(v);

@@ -1,13 +1,13 @@
 //! One journal, and the batch on its way to it.
 ghost use Rattle.std.specs.Prelude.{◌≡◌, true, false, [], IfOk, OnErr};
 ghost use Rattle.std.specs.Option.{option_map};
-ghost use Rattle.{disk_journals.specs.Opening.{IsEnded}, disk_journals.specs.Seen.{flush_of, stage_of}, disk_journals.specs.Asking.{SlotAnswers, SlotUnasked, fate_by, fate_of_wrote, reading_by, reading_in}};
+ghost use Rattle.{disk_journals.specs.Opening.{IsEnded}, disk_journals.specs.Seen.{flush_of, stage_of}, disk_journals.specs.Asking.{SlotAnswers, SlotUnasked, fate_by, fate_of_wrote}};
 ghost use Rattle.disk_journals.specs.{Arms.{seen_under}, Devices.{device}, Saving.{SavesSlot}};
 ghost use Rattle.vb_disk.specs.declared.fuse.Fuse.TheVariants.{Off};
 ghost use Rattle.{flusher.specs.Turns.{receipt_in, without_receipt}, flusher.specs.declared.flusher.Flusher.TheVariants.{Idle, Out}};
 ghost use Rattle.vb_types.specs.declared.journal.Record.TheVariants.{Rows};
-ghost use Rattle.{vb_calls.specs.Flushes.{wrote_of}, vb_calls.specs.Shelves.{Append, Read}};
-ghost use Rattle.{vb_disk.specs.{Crashes.{IsSettled}, Disks.{IsAsMade}}, vb_journal.specs.Payloads.{is_writable}};
+ghost use Rattle.{vb_calls.specs.Flushes.{wrote_of}, vb_calls.specs.Shelves.{Append, Read, reading_by}};
+ghost use Rattle.{vb_disk.specs.{Crashes.{IsSettled}, Disks.{IsAsMade}}, vb_journal.specs.{Books.{failures_of}, Payloads.{is_writable}}};
 
 use crate::opening::VbDisk;
 use flusher::Flusher;
@@ -106,6 +106,13 @@ impl<D: Disk> JournalSlot<D> {
         self.number
     }
 
+    /// How often calls of its disk have failed.
+    pub fn faults(&self) -> u64
+        ensures { result ≡ failures_of D.storage self.now.journal }
+    {
+        self.journal.faults()
+    }
+
     /// How far the batch on its way is.
     pub fn stage(&self) -> Stage
         ensures { result ≡ stage_of (flush_of self.now.flusher) }
@@ -142,10 +149,11 @@ impl<D: Disk> JournalSlot<D> {
         Ok(wrote_by(&came))
     }
 
-    /// The records, in their order, read from the disk. An `Err` leaves them as they are.
+    /// The records, in their order, read from the disk. An `Err` changes nothing but how often the
+    /// disk failed.
     pub fn records(&mut self) -> Result<Result<Records, AppendFault>, AllocError>
         ensures ok { IfOk result (λ came. SlotAnswers (device D.storage D.crashes D.armed D.left_by) self.old Read (reading_by came) self.new) }
-        ensures err { OnErr result (SlotAnswers (device D.storage D.crashes D.armed D.left_by) self.old Read (reading_in self.old) self.new) }
+        ensures err { OnErr result (SlotUnasked (device D.storage D.crashes D.armed D.left_by) self.old self.new) }
         ensures number { self.new.number ≡ self.old.number }
     {
         self.journal.records()

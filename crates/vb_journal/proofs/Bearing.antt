@@ -65,6 +65,7 @@ pub record WasRead (old new : Storage) (records : List Record) : Type 0 where
   pub same : IsSame old new
   pub book : book_of new.held ≡ option_map (λ bytes. records) old.held
   pub are : IfSome old.held (λ bytes. records ≡ records_in bytes)
+  pub whole : IfSome old.held IsWhole
 
 pub was_read : (old mid new : Storage) (records : List Record) (end : ℕ) → Syncs old mid put.Done → Stays mid new → mid.failures ≤ new.failures
     → IfSome mid.held (λ bytes. reading bytes ≡ scan.Whole records end) → WasRead old new records
@@ -80,6 +81,7 @@ was_read old mid new records end synced stays later read =
       };
       book = ap book_of (stays.held ∙ synced.stays.held) ∙ read_book_of old.held records end told;
       are = read_are old.held records end told;
+      whole = ends_whole end old.held (read_ends old.held records end told);
     }
 
 -- ---- an append

@@ -164,12 +164,13 @@ ReadBack storage old new (Err fault.Closed) = (old.closed ≡ true) × (new ≡ 
 ReadBack storage old new (Err fault.DiskFailed) = (old.closed ≡ false) × Rests storage old new × Rose (failures_of storage old) (failures_of storage new)
 ReadBack storage old new (Err (fault.Damaged place)) = (old.closed ≡ false) × Rests storage old new × (old.book ≡ None)
 
--- a journal holds what its disk reads as
+-- a journal holds what its disk reads as, up to a closed gate
 pub record Holds {D : Type 0} (storage : D → Storage) (disk : D) (j : JournalState D) (records : List Record) : Type 0 where
   pub same : IsSame (storage disk) (storage j.disk)
   pub is_open : j.closed ≡ false
   pub book : j.book ≡ option_map (λ bytes. records) (storage disk).held
   pub read : IfSome (storage disk).held (λ bytes. records ≡ records_in bytes)
+  pub whole : IfSome (storage disk).held IsWhole
 
 -- What opening answers: a journal and its records; or it hands the disk back, where memory was short, where it failed, and where its bytes are no journal's.
 abbrev pub Opened : {D : Type 0} → (D → Storage) → D → Result (JournalState D × List Record) (OpenFault D) → Type 0

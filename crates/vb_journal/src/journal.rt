@@ -4,8 +4,8 @@ ghost use Rattle.std.specs.{Int.{w32, to_be_bytes}, Option.{option_map}};
 ghost use Rattle.vb_disk.specs.{declared.fuse.Fuse.TheVariants.{Off}, Counts.{Counted}, Disks.{IsAsMade, IsReady, without}, Outcomes.{LeftAlike}};
 ghost use Rattle.vb_disk.specs.Crashes.{AtEachMoment, IsSettled, LeavesNoMore, SettledBy, TornFrom};
 ghost use Rattle.vb_journal.specs.{Payloads.{is_writable}, Reading.{behind_gate, IsReadBack}};
-ghost use Rattle.vb_journal.specs.Books.{Keeps, Noted, Appended, IsUncalled, Rests, ReadBack, Opened, Bears};
-ghost use Rattle.vb_journal.specs.Surviving.{KeptOnceDone, NotesAtEachMoment, OldOrNewAtEachMoment, OpenedSafely};
+ghost use Rattle.vb_journal.specs.Books.{Keeps, Noted, Appended, IsUncalled, Rests, ReadBack, Opened, Bears, failures_of};
+ghost use Rattle.vb_journal.specs.Surviving.{IsNeverDamaged, IsUndamaged, KeptOnceDone, NotesAtEachMoment, OldOrNewAtEachMoment, OpenedSafely};
 ghost use Rattle.vb_journal.specs.UnderArms.{BurnsBoth, BurnsNoting, EachSettled, LeavesUnder, left_noting, left_writing};
 ghost use Rattle.vb_journal.specs.UnderArms.{ArmedBy, KeptByEach, OpensUnder, ReadsUnder, StandsUnder};
 
@@ -126,10 +126,12 @@ impl<D: Disk> Journal<D> {
 
     /// The journal on a disk, and its records, in the order in which they were appended. It syncs
     /// the disk, and reads it once. An error hands the disk back. A crash meanwhile leaves nothing
-    /// that one could not have left before, and once it is done a crash leaves these records.
+    /// that one could not have left before, and once it is done a crash leaves these records. It
+    /// finds damage on no disk that tells its bytes and journals alone wrote, through any crash.
     pub fn open(alloc: Global, mut disk: D) -> Result<(Journal<D>, Records), OpenFault<D>>
         ensures opened { Opened D.storage disk result }
         ensures crash { OpenedSafely D.storage D.crashes disk result }
+        ensures undamaged { IsNeverDamaged D.storage D.crashes disk result }
         ensures arm { OpensUnder D.storage D.armed D.left_by disk result }
     {
         match disk.sync() {
@@ -208,6 +210,13 @@ impl<D: Disk> Journal<D> {
         }
     }
 
+    /// How often calls of its disk have failed. The count never falls, and stands still at `u64::MAX`.
+    pub fn faults(&self) -> u64
+        ensures { result ≡ failures_of D.storage self.now }
+    {
+        self.disk.faults()
+    }
+
     /// Whether an append failed.
     pub fn is_closed(&self) -> bool
         ensures { result ≡ self.now.closed }
@@ -215,10 +224,12 @@ impl<D: Disk> Journal<D> {
         self.closed
     }
 
-    /// Ends the journal, and gives its disk back, whose bytes read as its records.
+    /// Ends the journal, and gives its disk back, whose bytes read as its records. Whatever became
+    /// of its appends, an opening finds no damage there, also behind a crash.
     pub fn into_disk(self) -> D
         ensures disk { result ≡ self.disk }
         ensures book { Bears (D.storage result).held self.book }
+        ensures undamaged { IsUndamaged (D.storage result) (D.crashes result) }
     {
         self.disk
     }

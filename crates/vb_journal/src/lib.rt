@@ -12,7 +12,8 @@ mod scan;
 pub use fault::{AppendFault, OpenFault};
 pub use journal::Journal;
 pub use journal_laws::{
-    appends_are_read, arms_in_numbers, bytes_read_as_books, journal_in_numbers, the_gate_decides,
+    appends_are_read, arms_in_numbers, bytes_read_as_books, disks_are_never_damaged,
+    journal_in_numbers, the_gate_decides,
 };
 pub use laws::{
     batches_in_numbers, payload_lengths, payloads_end, payloads_in_numbers, payloads_once,

@@ -33,5 +33,8 @@ pub(crate) const DOC_HEAD: usize = 29;
 /// The bytes of a change before its key.
 pub(crate) const ITEM_HEAD: usize = 10;
 
+/// The bytes of the shortest change: an abort, of a key of one byte.
+pub(crate) const LEAST_ITEM: usize = ITEM_HEAD + 1 + 8;
+
 /// The bytes of a batch before its log.
 pub(crate) const ROWS_HEAD: usize = 32;

@@ -4,7 +4,8 @@ ghost use Rattle.std.specs.Prelude.{◌≡◌, ◌≤◌, length, IfOk, option_m
 ghost use Rattle.{vb_journal.specs.declared.payload.TheConstants.{DOC_HEAD, ROWS_HEAD}, vb_journal.specs.Payloads.{number_64, role_by_byte, flag_in, entry_in, entries_in, log_in, doc_with, doc_in, remove_in, prepare_in, commit_in, abort_in, act_in, item_in, items_in, is_below, rise, changes_in, batch_in, state_in, roll_in, record_in}};
 
 use super::{
-    DOC_HEAD, ENTRY_LEN, ITEM_HEAD, MAX_LOG, MAX_PAYLOAD, ROLL, ROWS, ROWS_HEAD, STATE, VERSION,
+    DOC_HEAD, ENTRY_LEN, ITEM_HEAD, LEAST_ITEM, MAX_LOG, MAX_PAYLOAD, ROLL, ROWS, ROWS_HEAD, STATE,
+    VERSION,
 };
 use byteorder::{BigEndian, ByteOrder};
 use bytes::Bytes;
@@ -49,11 +50,11 @@ fn entries_of(alloc: Global, bytes: &[u8]) -> Result<Listed<LogEntry>, AllocErro
     ensures { IfOk result (λ log. log ≡ entries_in bytes.now) }
 {
     let (entries, _) = bytes.as_chunks::<ENTRY_LEN>();
-    let mut log = Listed::new(alloc);
+    let mut log = Vec::with_capacity(alloc, entries.len())?;
     for entry in entries {
         log.push(entry_of(entry))?;
     }
-    Ok(log)
+    Ok(Listed::from_vec(log))
 }
 
 /// Takes a log.
@@ -244,7 +245,8 @@ fn do_rise(items: &[Change]) -> bool
     true
 }
 
-/// Takes so many changes.
+/// Takes so many changes. What is kept of a batch is no larger than it has to be, as an opening keeps
+/// all; and no count that is not the bytes' makes room for more changes than they can be.
 fn take_items(
     alloc: Global,
     count: u32,
@@ -252,14 +254,15 @@ fn take_items(
 ) -> Result<Option<Listed<Change>>, AllocError>
     ensures { IfOk result (λ items. option_map (λ cs. (cs, rest.new)) items ≡ items_in count rest.old) }
 {
-    let mut items = Listed::new(alloc);
+    let most = rest.len() / LEAST_ITEM;
+    let mut items = Vec::with_capacity(alloc, most.min(count as usize))?;
     for _ in 0..count {
         let Some(item) = take_item(alloc, rest)? else {
             return Ok(None);
         };
         items.push(item)?;
     }
-    Ok(Some(items))
+    Ok(Some(Listed::from_vec(items)))
 }
 
 /// The changes that the bytes are, behind their count.

@@ -1,6 +1,6 @@
 use Rattle.std.proofs.Common.{true, false, ◌≡◌, ◌+◌, ◌^◌, ◌<◌, ◌++◌, [], ◌∷◌, ◌∙◌, refl, length, ap, subst, sym, arith}
 use Rattle.std.specs.Prelude.{List, ℕ, IfSome, option_map}
-use Rattle.vb_disk.proofs.Moments.{no_more_twice, stays_settled}
+use Rattle.vb_disk.proofs.Moments.{no_more_none, no_more_twice, stays_settled}
 use Rattle.vb_disk.specs.Disks.{IsReady}
 use Rattle.vb_disk.specs.declared.Put.TheVariants as put
 use Rattle.vb_journal.specs.Books.{JournalState, book_of, IsKept, Noted, OldOrNew}
@@ -8,7 +8,7 @@ use Rattle.vb_journal.specs.Reading.{behind_gate}
 use Rattle.vb_journal.specs.Surviving.{NotesAtEachMoment, OldOrNewAtEachMoment}
 use Rattle.vb_journal.specs.UnderArms.{AppendLeaves, IsSettledEach, LeavesUnder, StandsUnder, left_noting}
 use Rattle.vb_journal.proofs.UnderArms.{append_leaves}
-use Rattle.vb_journal.proofs.Surviving.{old_or_new, opens_whole}
+use Rattle.vb_journal.proofs.Surviving.{broken_leaves, old_or_new, opens_whole, settled_leaves}
 use Rattle.vb_journal.proofs.Bearing.{reserved, noted_whole, noted_kept, noted_book, broken_kept, broken_book}
 use Rattle.vb_journal.proofs.journal.Journal.append.Goals as goal
 
@@ -43,6 +43,7 @@ invariant_of-self-in-Done g c =
       kept = subst (λ n. IsKept (s c.note.new.disk) (gate + n) c.self.inside.closed) long
           (subst (λ b. IsKept (s c.note.new.disk) (gate + length (behind_gate c.args.noted.now)) b) (sym c.if-self.false) kept);
       settled = λ e. c.in-Done.ensures.settled;
+      left = settled_leaves (s c.note.new.disk).held (g.D.Disk.crashes c.note.new.disk) kept.whole c.in-Done.ensures.settled;
     }
 
 pub returns-in-Done-clause-ok : goal.returns-in-Done-clause-ok
@@ -70,9 +71,17 @@ invariant_of-self-in-Failed g c =
     (c.self.invariant.kept.stands c.if-self.false) in
     let behind = c.deref.ensures.value ∙ c.in_ok-behind.ensures.bytes in
     let failed = subst (λ (l : List ℕ). Noted (s c.reserve-2.new.self) (s c.note.new.disk) gate l put.Failed) behind c.in-Failed.ensures.noted in
+    let k = g.D.Disk.crashes in
+    let more = no_more_twice (k c.self.inside.disk) (k c.reserve.new.self) (k c.reserve-2.new.self) c.reserve.ensures.crash c.reserve-2.ensures.crash in
+    let settled = stays_settled (s c.self.inside.disk).held (s c.reserve-2.new.self).held (k c.self.inside.disk) (k c.reserve-2.new.self) r.held more (c.self.invariant.settled c.if-self.false) in
     record {
       kept = broken_kept (s c.reserve-2.new.self) (s c.note.new.disk) gate gate c.args.noted.now r.stands c.in_ok-behind.ensures.back failed;
       settled = λ (e : true ≡ false). absurd (cc e);
+      left = broken_leaves (s c.reserve-2.new.self).held (s c.note.new.disk).held gate c.args.noted.now (k c.reserve-2.new.self) (k c.note.new.disk) failed
+          (old_or_new (s c.reserve-2.new.self).held (k c.reserve-2.new.self) (k c.reserve-2.new.self) (k c.note.new.disk) gate c.args.noted.now r.stands.told c.in_ok-behind.ensures.back
+          (g.met.D.Disk.counts_now c.reserve-2.new.self) settled (no_more_none (k c.reserve-2.new.self))
+          (subst (λ (l : List ℕ). NotesAtEachMoment (s c.reserve-2.new.self).held (k c.reserve-2.new.self) (k c.note.new.disk) gate l) behind (c.note.ensures.moments settled)))
+          (g.met.D.Disk.counts_now c.note.new.disk);
     }
 
 pub returns-clause-ok : goal.returns-clause-ok

@@ -3,4 +3,4 @@ use Rattle.vb_journal.specs.Payloads.{entry_in}
 use Rattle.vb_journal.proofs.payload.reader.entries_of.Given as goal
 
 abbrev pub invariant-loop-entry : goal.invariant-loop-entry
-invariant-loop-entry l = l.log ≡ map entry_in (take l.entry-index l.entries)
+invariant-loop-entry l = l.log.items ≡ map entry_in (take l.entry-index l.entries)
