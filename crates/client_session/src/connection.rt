@@ -2,6 +2,7 @@
 ghost use Rattle.std.specs.Prelude.{◌≡◌, [], OnOk, OnErr};
 ghost use Rattle.{client_session.specs.Serving.{served, bytes_handled, outcome_handled}, vb_calls.specs.Programs.{Ran, Began}};
 
+use crate::block::AnswerBlock;
 use crate::{Alloc, Awaited, SessionStep, Settings, Who};
 use mcbp_frame::{Frame, FrameReader};
 use std::alloc::Global;
@@ -24,6 +25,8 @@ pub struct Connection {
     pub awaited: Option<Awaited>,
     pub events: Listed<Event>,
     pub dcp: Option<Frame>,
+    /// What the bytes of answers are cut out of.
+    pub block: AnswerBlock,
 }
 
 impl Model for Connection {

@@ -2,6 +2,7 @@
 #![tactic(auto)]
 
 mod answers;
+mod block;
 mod connection;
 mod dcp_laws;
 mod laws;

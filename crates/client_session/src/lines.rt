@@ -1,29 +1,62 @@
 //! The lines that tell what a connection did.
 ghost use Rattle.std.specs.Prelude.{◌≡◌, ◌∷◌, [], map, OnOk};
-ghost use Rattle.{client_session.specs.Answers.{reply_line, change_lines, fault_lines}, client_session.specs.Serving.{with_lines, refused, told, outcome_answered, answered_or_awaited, durable_answered, durable_replied}, mcbp_kv.specs.Replies.{ReplyFits}, vb_events.specs.declared.event.Event.TheVariants.{Changed}};
+ghost use Rattle.{client_session.specs.Answers.{reply_line, reply_lines, reply_to, found_reply, token, change_lines, fault_lines}, client_session.specs.Heads.{answered}, client_session.specs.Serving.{with_lines, refused, told, outcome_answered, answered_or_awaited, durable_answered, durable_replied}, mcbp_kv.specs.Answers.{bare_answer, seqno_extras}, mcbp_kv.specs.Replies.{reply_with, ReplyFits}, vb_events.specs.declared.event.Event.TheVariants.{Changed}};
 
-use crate::answers::{bare_reply, outcome_of, outcome_reply, reply_for, status_reply};
+use crate::answers::{bare_head, found_head, outcome_of, stored_head, token};
 use crate::{Alloc, Awaited, Connection};
 use mcbp_frame::{FaultyHead, Frame};
-use mcbp_kv::{KvReply, reply_bytes};
+use mcbp_kv::ReplyHead;
 use vb_calls::{Resolution, VbAnswer, VbReply};
 use vb_events::Event;
-use vb_types::{Change, Status};
+use vb_types::{Change, Doc, Status};
 
 impl Connection {
-    /// Tells of an answer.
+    /// Tells of the answer of a head, these extras and this value.
     #[tactic(auto, unfolding(crate::specs::Answers::reply_line))]
-    pub fn tell_reply(&mut self, reply: KvReply) -> Alloc<()>
-        requires { ReplyFits reply }
-        ensures { OnOk result (self.new ≡ with_lines self.old (reply_line self.old.session.who.node self.old.session.who.client reply ∷ [])) }
+    pub fn tell(&mut self, head: &ReplyHead, extras: &[u8], value: &[u8]) -> Alloc<()>
+        requires { ReplyFits (reply_with head.now extras.now value.now) }
+        ensures { OnOk result (self.new ≡ answered self.old head.now extras.now value.now) }
     {
-        let bytes = reply_bytes(self.alloc, &reply);
-        drop(reply);
+        let bytes = self.block.spell(head, extras, value)?;
         self.events.push(Event::Reply {
             node: self.who.node,
             client: self.who.client,
-            bytes: bytes?,
+            bytes,
         })
+    }
+
+    /// Tells of an answer with a status alone.
+    fn tell_status(&mut self, opcode: u8, opaque: u32, status: Status) -> Alloc<()>
+        ensures { OnOk result (self.new ≡ with_lines self.old (reply_line self.old.session.who.node self.old.session.who.client (bare_answer opcode status opaque) ∷ [])) }
+    {
+        self.tell(&bare_head(opcode, opaque, status), &[], &[])
+    }
+
+    /// Tells of the answer to a write that was made, with its branch and seqno.
+    fn tell_token(&mut self, head: &ReplyHead, uuid: u64, seq: u64) -> Alloc<()>
+        ensures { OnOk result (self.new ≡ answered self.old head.now (seqno_extras uuid seq) []) }
+    {
+        self.tell(head, &token(uuid, seq), &[])
+    }
+
+    /// Tells of the answer to a write that was made, with its branch and seqno where they were asked
+    /// for.
+    fn tell_written(&mut self, head: &ReplyHead, uuid: u64, seq: u64) -> Alloc<()>
+        ensures { OnOk result (self.new ≡ answered self.old head.now (token self.old.session.settings uuid seq) []) }
+    {
+        if self.settings.seqnos {
+            self.tell_token(head, uuid, seq)
+        } else {
+            self.tell(head, &[], &[])
+        }
+    }
+
+    /// Tells of the answer to a GET of this document, with its flags and its value.
+    fn tell_found(&mut self, f: &Frame, doc: &Doc) -> Alloc<()>
+        ensures { OnOk result (self.new ≡ with_lines self.old (reply_line self.old.session.who.node self.old.session.who.client (found_reply self.old.session.settings f.now doc.now) ∷ [])) }
+    {
+        let head = found_head(self.settings, f, doc);
+        self.tell(&head, &doc.flags.to_be_bytes(), doc.value.as_slice())
     }
 
     /// Tells of changes on a branch.
@@ -55,19 +88,30 @@ impl Connection {
     pub fn refuse(&mut self, f: &Frame, status: Status) -> Alloc<()>
         ensures { OnOk result (self.new ≡ refused f.now status self.old) }
     {
-        self.tell_reply(status_reply(f, status))
+        self.tell_status(f.opcode, f.opaque, status)
+    }
+
+    /// Answers by a vBucket's answer.
+    fn tell_answer(&mut self, f: &Frame, answer: &VbAnswer) -> Alloc<()>
+        ensures { OnOk result (self.new ≡ with_lines self.old (reply_lines self.old.session.who.node self.old.session.who.client (reply_to self.old.session.settings f.now answer.now))) }
+    {
+        match answer {
+            VbAnswer::Status(status) => self.refuse(f, *status),
+            VbAnswer::Found(doc) => self.tell_found(f, doc),
+            VbAnswer::Stored { uuid, seq, cas } => {
+                self.tell_written(&stored_head(f.opcode, f.opaque, *cas), *uuid, *seq)
+            }
+            _ => Ok(()),
+        }
     }
 
     /// Tells of a vBucket's reply, and answers.
     #[tactic(auto, using(crate::proofs::Conduct::lines_twice), unfolding(crate::specs::Serving::told))]
-    fn tell_answer(&mut self, f: &Frame, made: &VbReply) -> Alloc<()>
+    fn tell_replied(&mut self, f: &Frame, made: &VbReply) -> Alloc<()>
         ensures { OnOk result (self.new ≡ told f.now self.old (Some made.now)) }
     {
         self.tell_stored(f.vb_or_status, made)?;
-        match reply_for(self.alloc, self.settings, f, &made.answer)? {
-            Some(reply) => self.tell_reply(reply),
-            None => Ok(()),
-        }
+        self.tell_answer(f, &made.answer)
     }
 
     /// Tells of what a vBucket replied, and answers.
@@ -77,7 +121,7 @@ impl Connection {
     {
         let told = match &reply {
             None => self.refuse(f, Status::NotMyVbucket),
-            Some(made) => self.tell_answer(f, made),
+            Some(made) => self.tell_replied(f, made),
         };
         drop(reply);
         told
@@ -87,9 +131,16 @@ impl Connection {
     pub fn tell_outcome(&mut self, awaited: Awaited, how: Resolution) -> Alloc<()>
         ensures { OnOk result (self.new ≡ outcome_answered awaited how self.old) }
     {
-        let reply = outcome_reply(self.alloc, self.settings, awaited, how)?;
+        let (opcode, opaque) = (awaited.opcode, awaited.opaque);
         self.awaited = None;
-        self.tell_reply(reply)
+        match how {
+            Resolution::Committed { uuid, seq, cas } => {
+                self.tell_written(&stored_head(opcode, opaque, cas), uuid, seq)
+            }
+            Resolution::Ambiguous => {
+                self.tell_status(opcode, opaque, Status::SyncWriteAmbiguous)
+            }
+        }
     }
 
     /// Answers a durable write that was prepared, or awaits its outcome where that is not known yet.
@@ -157,7 +208,7 @@ impl Connection {
         ensures { OnOk result (self.new ≡ with_lines self.old (fault_lines self.old.session.who.node self.old.session.who.client head)) }
     {
         if let Some(head) = head {
-            self.tell_reply(bare_reply(head.opcode, head.opaque, Status::Einval))?;
+            self.tell_status(head.opcode, head.opaque, Status::Einval)?;
         }
         self.events.push(Event::Closed {
             node: self.who.node,

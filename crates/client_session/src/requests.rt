@@ -1,13 +1,13 @@
 //! How a connection serves the frames that come, one a turn.
-ghost use Rattle.std.specs.Prelude.{◌≡◌, ◌⊎◌, ◌≤◌, ◌<◌, ◌==◌, true, false, length, IfOk, OnOk, OnErr, Some};
-ghost use Rattle.{client_session.specs.Serving.{MOST_DURABLE, deadline_of, next_waiter, greeted, asked, durable_called, durable_requested, request_handled, is_dcp, frame_handled, ended_at, turn, turn_handled, turns_handled}, mcbp_kv.specs.Features.{has_feature}};
+ghost use Rattle.std.specs.Prelude.{◌≡◌, ◌∷◌, [], ◌⊎◌, ◌≤◌, ◌<◌, ◌==◌, true, false, length, IfOk, OnOk, OnErr, Some};
+ghost use Rattle.{client_session.specs.Answers.{reply_line, value_reply}, client_session.specs.Serving.{with_lines, MOST_DURABLE, deadline_of, next_waiter, greeted, asked, durable_called, durable_requested, request_handled, is_dcp, frame_handled, ended_at, turn, turn_handled, turns_handled}, mcbp_kv.specs.Features.{feature_bytes, has_feature}};
 ghost use Rattle.{mcbp_frame.specs.Cutting.{front_fault}, mcbp_frame.specs.declared.frame.TheConstants.{RESPONSE}, mcbp_kv.specs.Fitting.{AsksFew}, vb_calls.specs.Programs.{Ran, Began}};
 
-use crate::answers::status_reply;
+use crate::answers::bare_head;
 use crate::{Alloc, Connection, Settings};
 use mcbp_dcp::is_dcp;
 use mcbp_frame::{Frame, FrameFault, RESPONSE};
-use mcbp_kv::{Durability, Feature, KvReply, KvRequest, hello_value, read_request};
+use mcbp_kv::{Durability, Feature, KvRequest, hello_value, read_request};
 use vb_calls::{VbAccess, VbCall};
 use vb_types::{Status, Write};
 
@@ -29,16 +29,22 @@ fn deadline_of(clock: u64, timeout: u16) -> u64
 }
 
 impl Connection {
+    /// Answers HELLO by the features that it gets.
+    fn tell_features(&mut self, f: &Frame, features: &[Feature]) -> Alloc<()>
+        requires { length features.now ≤ 4 }
+        ensures { OnOk result (self.new ≡ with_lines self.old (reply_line self.old.session.who.node self.old.session.who.client (value_reply f.now (feature_bytes features.now)) ∷ [])) }
+    {
+        let value = hello_value(self.alloc, features)?;
+        let head = bare_head(f.opcode, f.opaque, Status::Success);
+        self.tell(&head, &[], value.as_slice())
+    }
+
     /// Answers HELLO, and sets the features that it gets, and no others.
     fn greet(&mut self, f: &Frame, features: &[Feature]) -> Alloc<()>
         requires { length features.now ≤ 4 }
         ensures { OnOk result (self.new ≡ greeted f.now features.now self.old) }
     {
-        let reply = KvReply {
-            value: hello_value(self.alloc, features)?,
-            ..status_reply(f, Status::Success)
-        };
-        self.tell_reply(reply)?;
+        self.tell_features(f, features)?;
         self.settings = Settings {
             json: has(features, Feature::Json),
             seqnos: has(features, Feature::MutationSeqnos),

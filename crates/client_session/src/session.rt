@@ -2,6 +2,7 @@
 ghost use Rattle.std.specs.Prelude.{◌≡◌, false, true, [], IfOk, OnOk, OnErr};
 ghost use Rattle.{client_session.specs.Serving.{new_session, served, bytes_handled, awaits, outcome_handled}, vb_calls.specs.Programs.{Ran, Began}};
 
+use crate::block::AnswerBlock;
 use crate::{Alloc, Connection};
 use mcbp_frame::{Frame, FrameReader};
 use std::alloc::{AllocError, Global};
@@ -80,6 +81,7 @@ impl Session {
                 awaited: None,
                 events: Listed::new(alloc),
                 dcp: None,
+                block: AnswerBlock::new(alloc),
             },
             spent: false,
         })

@@ -3,6 +3,7 @@ ghost use Rattle.std.specs.Prelude.{◌≡◌, ◌+◌, ◌≤◌, ◌<◌, ◌^
 ghost use Rattle.{std.specs.List.{slice_range}, mcbp_frame.specs.Cutting.{front_frame, frames_in, cut_len}};
 ghost use Rattle.mcbp_frame.specs.Frames.{is_magic, framing_len, key_len, extras_at, key_at, value_at, body_len, parts_len, frame_of, first_frame, frame_len, IsWithin};
 
+use crate::copies::Copies;
 use byteorder::{BigEndian, ByteOrder};
 use bytes::Bytes;
 use std::alloc::{AllocError, Global};
@@ -162,7 +163,7 @@ fn headed(bytes: &[u8], parts: Parts) -> Frame
 
 /// The frame of a header and its body, whose parts share one copy of the body.
 #[tactic(auto, unfolding(crate::specs::Frames::frame_of))]
-fn frame_from(alloc: Global, bytes: &[u8], body: usize) -> Result<Frame, AllocError>
+fn frame_from(copies: &mut Copies, bytes: &[u8], body: usize) -> Result<Frame, AllocError>
     requires whole { HEADER_LEN + body ≤ length bytes.now }
     requires said { body ≡ body_len bytes.now }
     requires parts { parts_len bytes.now ≤ body }
@@ -170,14 +171,17 @@ fn frame_from(alloc: Global, bytes: &[u8], body: usize) -> Result<Frame, AllocEr
     ensures len { IfOk result (λ frame. frame_len frame ≡ HEADER_LEN + body) }
 {
     let end = HEADER_LEN + body;
-    let body = Bytes::copy_from_slice(alloc, &bytes[HEADER_LEN..end])?;
+    let body = copies.copy(&bytes[HEADER_LEN..end])?;
     let parts = parts_of(&body, bytes)?;
     Ok(headed(bytes, parts))
 }
 
 /// What the bytes begin with: a frame, a fault, or less than a frame.
 #[tactic(auto, unfolding(crate::specs::Frames::first_frame))]
-pub fn first(alloc: Global, bytes: &[u8]) -> Result<Option<Result<Frame, FrameFault>>, AllocError>
+pub fn first(
+    copies: &mut Copies,
+    bytes: &[u8],
+) -> Result<Option<Result<Frame, FrameFault>>, AllocError>
     ensures first { IfOk result (λ first. first ≡ first_frame bytes.now) }
     ensures within { IfOk result (λ first. IsWithin first (length bytes.now)) }
 {
@@ -202,7 +206,7 @@ pub fn first(alloc: Global, bytes: &[u8]) -> Result<Option<Result<Frame, FrameFa
     if bytes.len() < HEADER_LEN + body {
         return Ok(None);
     }
-    Ok(Some(Ok(frame_from(alloc, bytes, body)?)))
+    Ok(Some(Ok(frame_from(copies, bytes, body)?)))
 }
 
 /// The length of a frame as bytes.
@@ -222,11 +226,11 @@ fn behind<'a>(frame: &Frame, bytes: &'a [u8]) -> &'a [u8]
 }
 
 /// The frame that the bytes begin with, if they begin with one.
-fn front(alloc: Global, bytes: &[u8]) -> Result<Option<Frame>, AllocError>
+fn front(copies: &mut Copies, bytes: &[u8]) -> Result<Option<Frame>, AllocError>
     ensures frame { IfOk result (λ frame. frame ≡ front_frame bytes.now) }
     ensures within { IfOk result (λ frame. IfSome frame (λ f. frame_len f ≤ length bytes.now)) }
 {
-    match first(alloc, bytes)? {
+    match first(copies, bytes)? {
         Some(Ok(frame)) => Ok(Some(frame)),
         _ => Ok(None),
     }
@@ -238,9 +242,10 @@ pub fn cut(alloc: Global, bytes: &[u8]) -> Result<(Vec<Frame>, usize), AllocErro
     ensures len { IfOk result (λ cut. cut.1 ≡ cut_len bytes.now) }
     ensures within { IfOk result (λ cut. cut.1 ≤ length bytes.now) }
 {
+    let mut copies = Copies::own(alloc);
     let mut frames = Vec::new(alloc);
     let mut rest = bytes;
-    while let Some(frame) = front(alloc, rest)? {
+    while let Some(frame) = front(&mut copies, rest)? {
         rest = behind(&frame, rest);
         frames.push(frame)?;
     }

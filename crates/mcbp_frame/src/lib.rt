@@ -1,12 +1,14 @@
 //! Frames of the memcached binary protocol: cut out of a stream that comes in pieces, and written.
 #![tactic(auto)]
 
+mod copies;
 mod frame;
 mod laws;
 mod queue;
 mod reader;
 mod writer;
 
+pub use copies::CUT;
 pub use frame::{
     FRAMED_REQUEST, FaultyHead, Frame, FrameFault, HEADER_LEN, MAX_BODY_LEN, REQUEST, RESPONSE,
 };

@@ -2,6 +2,7 @@
 ghost use Rattle.std.specs.Prelude.{◌≡◌, ◌++◌, [], IfOk, OnOk, OnErr};
 ghost use Rattle.{mcbp_frame.specs.Cutting.{fault_in, front_fault, frames_in, left_of}, mcbp_frame.specs.Frames.{first_frame, rest_after, faulty_head}};
 
+use crate::copies::Copies;
 use crate::frame::{self, FaultyHead, Frame, FrameFault, HEADER_LEN};
 use byteorder::{BigEndian, ByteOrder};
 use bytes::BytesMut;
@@ -12,6 +13,8 @@ use std::alloc::{AllocError, Global};
 pub struct FrameReader {
     alloc: Global,
     held: BytesMut,
+    /// What the bodies of single frames are copied by.
+    copies: Copies,
 }
 
 impl std::marker::Model for FrameReader {
@@ -28,7 +31,11 @@ impl FrameReader {
         ensures { IfOk result (λ reader. reader ≡ []) }
     {
         let held = BytesMut::with_capacity(alloc, HEADER_LEN)?;
-        Ok(FrameReader { alloc, held })
+        Ok(FrameReader {
+            alloc,
+            held,
+            copies: Copies::cutting(alloc),
+        })
     }
 
     /// Takes the next piece of the stream.
@@ -46,7 +53,7 @@ impl FrameReader {
         ensures rest { IfOk result (λ first. self.new ≡ rest_after first self.old) }
         ensures err { OnErr result (self.new ≡ self.old) }
     {
-        let first = frame::first(self.alloc, self.held.as_slice())?;
+        let first = frame::first(&mut self.copies, self.held.as_slice())?;
         if let Some(Ok(frame)) = &first {
             let len = frame::len_of(frame);
             self.held.advance(len);
@@ -71,7 +78,7 @@ impl FrameReader {
     pub fn fault(&self) -> Result<Option<FrameFault>, AllocError>
         ensures { IfOk result (λ fault. fault ≡ front_fault self.now) }
     {
-        let first = frame::first(self.alloc, self.held.as_slice())?;
+        let first = frame::first(&mut Copies::own(self.alloc), self.held.as_slice())?;
         Ok(fault_of(&first))
     }
 

@@ -5,3 +5,4 @@ pub mod Commands
 pub mod Required
 pub mod Extras
 pub mod Shapes
+pub mod Parts

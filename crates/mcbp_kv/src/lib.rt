@@ -16,5 +16,5 @@ pub use laws::{
     features_in_bytes, framing_is_read, opcodes_in_numbers, refusals_in_order, requests_fit,
 };
 pub use opcodes::{ADD, DELETE, GET, HELLO, NOOP, REPLACE, SET};
-pub use reply::{KvReply, reply_bytes, write_reply};
+pub use reply::{KvReply, ReplyHead, answer_bytes, reply_bytes, write_answer, write_reply};
 pub use request::{KvRequest, read_request};

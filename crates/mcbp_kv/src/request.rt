@@ -1,13 +1,14 @@
 //! What a client's frame asks.
-ghost use Rattle.std.specs.Prelude.{◌≡◌, IfOk, IfErr, OnOk, None, Some, Ok, true};
-ghost use Rattle.{mcbp_kv.specs.Fitting.{AsksFew}, mcbp_kv.specs.Requests.{code_of, required_of, durable_of, has_shape, first_of, refusals, written, request_by, request_of}, vb_types.specs.Limits.{IsValue}};
+ghost use Rattle.std.specs.Prelude.{◌≡◌, ◌+◌, ◌<◌, ◌^◌, ◌++◌, length, IfOk, IfErr, OnOk, None, Some, Ok, true};
+ghost use Rattle.{mcbp_kv.specs.Fitting.{AsksFew}, mcbp_kv.specs.Requests.{code_of, required_of, durable_of, has_shape, first_of, refusals, written, request_by, request_of}, vb_types.specs.Limits.{IsKey, IsValue}};
 ghost use Rattle.mcbp_kv.specs.declared.opcodes.Command.TheVariants as command;
 
 use crate::durable::Durability;
 use crate::feature::{Feature, accept};
 use crate::framing::{Requirement, read_requirement};
 use crate::opcodes::Command;
-use mcbp_frame::Frame;
+use bytes::Bytes;
+use mcbp_frame::{CUT, Frame};
 use std::alloc::{AllocError, Global};
 use vb_types::{Key, Listed, MAX_KEY, MAX_VALUE, Op, Status, Value, Write};
 
@@ -127,6 +128,65 @@ fn write_of(f: &Frame, op: Op, key: Key, value: Value) -> Write
     }
 }
 
+/// A key and a value in a list that never grows.
+fn listed(alloc: Global, key: &[u8], value: &[u8]) -> Result<Vec<u8>, AllocError>
+    requires { length key.now + length value.now < 2 ^ 32 }
+    ensures { IfOk result (λ bytes. bytes.items ≡ key.now ++ value.now) }
+{
+    let mut bytes = Vec::with_capacity(alloc, key.len() + value.len())?;
+    bytes.extend_from_slice(key)?;
+    bytes.extend_from_slice(value)?;
+    Ok(bytes)
+}
+
+/// A key and a value as two parts of one block.
+#[tactic(auto, using(crate::proofs::Parts::front, crate::proofs::Parts::back))]
+fn parted(alloc: Global, key: &[u8], value: &[u8]) -> Result<(Bytes, Bytes), AllocError>
+    requires { length key.now + length value.now < 2 ^ 32 }
+    ensures { IfOk result (λ parts. parts ≡ (key.now, value.now)) }
+{
+    let mut behind = Bytes::from_vec(listed(alloc, key, value)?)?;
+    let front = behind.split_to(key.len())?;
+    Ok((front, behind))
+}
+
+/// The key and the value of a frame as two parts of one block.
+fn copied(alloc: Global, f: &Frame) -> Result<(Key, Value), AllocError>
+    requires key { IsKey f.now.key }
+    requires value { IsValue f.now.value }
+    ensures { IfOk result (λ parts. parts ≡ (f.now.key, f.now.value)) }
+{
+    let (key, value) = parted(alloc, f.key.as_slice(), f.value.as_slice())?;
+    let key = Key::from_bytes(key).unwrap();
+    Ok((key, Value::from_bytes(value).unwrap()))
+}
+
+/// The key and the value of a frame. A short value stands beside its key in a block of their own, as a
+/// table keeps its first key, and with it what stands beside that. A long one keeps its frame's copy of
+/// the body, in which little else stands.
+fn parts_of(alloc: Global, f: &Frame) -> Result<(Key, Value), AllocError>
+    requires key { IsKey f.now.key }
+    requires value { IsValue f.now.value }
+    ensures { IfOk result (λ parts. parts ≡ (f.now.key, f.now.value)) }
+{
+    if f.value.len() < CUT {
+        return copied(alloc, f);
+    }
+    let key = Key::new(alloc, f.key.as_slice())?.unwrap();
+    Ok((key, Value::from_bytes(f.value.clone()?).unwrap()))
+}
+
+/// The write that a frame asks for.
+fn write_asked(alloc: Global, f: &Frame, op: Op) -> Result<Write, AllocError>
+    requires opcode { code_of (command.Write op) ≡ f.now.opcode }
+    requires shape { has_shape f.now.opcode f.now ≡ true }
+    requires value { IsValue f.now.value }
+    ensures { IfOk result (λ write. write ≡ written op f.now) }
+{
+    let (key, value) = parts_of(alloc, f)?;
+    Ok(write_of(f, op, key, value))
+}
+
 /// What a frame in which nothing is wrong asks.
 #[tactic(auto, using(crate::proofs::Chosen::accepts_few))]
 fn asked(alloc: Global, f: &Frame, called: Called) -> Result<KvRequest, AllocError>
@@ -138,19 +198,16 @@ fn asked(alloc: Global, f: &Frame, called: Called) -> Result<KvRequest, AllocErr
 {
     match called.command {
         Command::Get => Ok(KvRequest::Get {
-            key: Key::new(alloc, f.key.as_slice())?.unwrap(),
+            key: Key::from_bytes(f.key.clone()?).unwrap(),
         }),
         Command::Noop => Ok(KvRequest::Noop),
         Command::Hello => Ok(KvRequest::Hello {
             features: accept(alloc, f.value.as_slice())?,
         }),
         Command::Write(op) => {
-            let key = Key::new(alloc, f.key.as_slice())?.unwrap();
-            // The value keeps its frame's copy of the body, in which little else stands: extras and
-            // a key. The key has a block of its own, as a table keeps it longer than a value.
-            let value = Value::from_bytes(f.value.clone()?).unwrap();
+            let write = write_asked(alloc, f, op)?;
             Ok(KvRequest::Write {
-                write: write_of(f, op, key, value),
+                write,
                 durable: called.durable,
             })
         }
