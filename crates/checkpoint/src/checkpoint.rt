@@ -1,5 +1,6 @@
 //! A checkpoint that is open.
-ghost use Rattle.std.specs.Prelude.{◌≡◌, ◌+◌, ◌*◌, ◌<◌, ◌≤◌, ◌++◌, true, [], length, vec_capacity, OnOk, OnErr};
+ghost use Rattle.std.specs.Prelude.{◌≡◌, ◌+◌, ◌*◌, ◌<◌, ◌≤◌, ◌++◌, true, [], length, OnOk, OnErr};
+ghost use Rattle.std.specs.VecDeque.{deque_capacity};
 ghost use Rattle.std.specs.Option.{option_copied};
 ghost use Rattle.vb_types.specs.Histories.{Rises};
 ghost use Rattle.vb_calls.specs.Spans.{change_weight};
@@ -9,7 +10,7 @@ use crate::entries::{cut, enter, replace};
 use crate::run::Run;
 use crate::weights::{is_part_of_durable, weight_of};
 use std::alloc::{AllocError, Global};
-use std::collections::HashMap;
+use std::collections::{HashMap, VecDeque};
 use std::marker::Model;
 use vb_calls::{MAX_ITEMS, MAX_WEIGHT, Origin};
 use vb_types::{Change, Key, Listed};
@@ -162,7 +163,7 @@ impl Checkpoint {
     }
 
     /// Moves all changes behind those of `sealed`. The checkpoint is empty then, above its last change. An `Err` changes nothing.
-    pub fn seal(&mut self, sealed: &mut Vec<Change>) -> Result<(), AllocError>
+    pub fn seal(&mut self, sealed: &mut VecDeque<Change>) -> Result<(), AllocError>
         ensures items { OnOk result (sealed.new.items ≡ sealed.old.items ++ self.old.items) }
         ensures empty { OnOk result (self.new ≡ empty_ckpt (ckpt_last self.old) self.old.origin) }
         ensures light { items_weight self.old.items ≤ MAX_WEIGHT }
@@ -174,10 +175,10 @@ impl Checkpoint {
     }
 
     /// The same where there is room for all changes. Takes no memory.
-    pub fn seal_in_room(&mut self, sealed: &mut Vec<Change>)
-        requires { length sealed.now.items + length self.now.items ≤ vec_capacity sealed.now }
+    pub fn seal_in_room(&mut self, sealed: &mut VecDeque<Change>)
+        requires { length sealed.now.items + length self.now.items ≤ deque_capacity sealed.now }
         ensures items { sealed.new.items ≡ sealed.old.items ++ self.old.items }
-        ensures room { vec_capacity sealed.old ≤ vec_capacity sealed.new }
+        ensures room { deque_capacity sealed.new ≡ deque_capacity sealed.old }
         ensures empty { self.new ≡ empty_ckpt (ckpt_last self.old) self.old.origin }
         ensures light { items_weight self.old.items ≤ MAX_WEIGHT }
     {

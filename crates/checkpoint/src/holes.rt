@@ -1,9 +1,11 @@
 //! Entries by rising seqno, of which some are holes: their changes were taken away.
-ghost use Rattle.std.specs.Prelude.{◌≡◌, ◌+◌, ◌<◌, ◌≤◌, ◌∷◌, ◌++◌, [], length, vec_capacity, IfSome, IfNone, false};
+ghost use Rattle.std.specs.Prelude.{◌≡◌, ◌+◌, ◌<◌, ◌≤◌, ◌∷◌, ◌++◌, [], length, IfSome, IfNone, false};
+ghost use Rattle.std.specs.VecDeque.{deque_capacity};
 ghost use Rattle.vb_types.specs.Histories.{upto};
 ghost use Rattle.checkpoint.specs.Checkpoints.{items_above};
 ghost use Rattle.checkpoint.specs.Runs.{AreEntries, IsAt, IsRun, Lacks, changes_there, is_above, is_hole, last_entry};
 
+use std::collections::VecDeque;
 use vb_types::Change;
 
 /// Where the entry of a seqno is.
@@ -86,15 +88,14 @@ pub fn close_up(entries: &mut Vec<(u64, Option<Change>)>, there: usize)
 }
 
 /// Moves the changes that are there behind others, where there is room for them.
-pub fn move_there(entries: Vec<(u64, Option<Change>)>, into: &mut Vec<Change>)
-    requires { length into.now.items + length (changes_there entries.items) ≤ vec_capacity into.now }
+pub fn move_there(entries: Vec<(u64, Option<Change>)>, into: &mut VecDeque<Change>)
+    requires { length into.now.items + length (changes_there entries.items) ≤ deque_capacity into.now }
     ensures items { into.new.items ≡ into.old.items ++ changes_there entries.items }
-    ensures room { vec_capacity into.old ≤ vec_capacity into.new }
+    ensures room { deque_capacity into.new ≡ deque_capacity into.old }
 {
     for (_, change) in entries {
         if let Some(change) = change {
-            let pushed: Result<_, _> = into.push(change);
-            pushed.unwrap();
+            into.push_back_reserved(change);
         }
     }
 }

@@ -1,5 +1,6 @@
 //! Changes by rising seqno, any of which may be taken away.
-ghost use Rattle.std.specs.Prelude.{◌≡◌, ◌+◌, ◌<◌, ◌≤◌, ◌∷◌, ◌++◌, [], length, vec_capacity, IfSome, IfNone, OnOk, OnErr};
+ghost use Rattle.std.specs.Prelude.{◌≡◌, ◌+◌, ◌<◌, ◌≤◌, ◌∷◌, ◌++◌, [], length, IfSome, IfNone, OnOk, OnErr};
+ghost use Rattle.std.specs.VecDeque.{deque_capacity};
 ghost use Rattle.std.specs.List.{list_any};
 ghost use Rattle.std.specs.Option.{option_copied, option_to_list};
 ghost use Rattle.vb_types.specs.Histories.{upto};
@@ -9,6 +10,7 @@ ghost use Rattle.checkpoint.specs.Runs.{AreBelow, change_at, lacking};
 
 use crate::holes::{close_up, drop_holes_behind, later, move_there, place_of, pop_last_above};
 use std::alloc::{AllocError, Global};
+use std::collections::VecDeque;
 use std::marker::Model;
 use vb_types::{Act, Change, Listed};
 
@@ -125,10 +127,10 @@ impl Run {
     }
 
     /// Moves all changes behind others, where there is room for them. Takes no memory.
-    pub fn move_out(&mut self, into: &mut Vec<Change>)
-        requires { length into.now.items + length self.now ≤ vec_capacity into.now }
+    pub fn move_out(&mut self, into: &mut VecDeque<Change>)
+        requires { length into.now.items + length self.now ≤ deque_capacity into.now }
         ensures items { into.new.items ≡ into.old.items ++ self.old }
-        ensures room { vec_capacity into.old ≤ vec_capacity into.new }
+        ensures room { deque_capacity into.new ≡ deque_capacity into.old }
         ensures empty { self.new ≡ [] }
     {
         let entries = std::mem::replace(&mut self.entries, Vec::new(self.alloc));

@@ -63,11 +63,11 @@ not_not false = refl
 pub at_most : (t n : ℕ) → ltb t n ≡ not (leb n t)
 at_most t n = ⊎_elim (λ y. le-ltb t n (leb-true n t y) ∙ sym (ap not y)) (λ f. lt-ltb t n (leb-false n t f) ∙ sym (ap not f)) (cases_Bool (leb n t))
 
-none_kept : {X : Type 0} (p : X → Bool) (xs : List X) → ((i : ℕ) (d : X) → i < length xs → p (get_or xs i d) ≡ false) → filter p xs ≡ []
+pub none_kept : {X : Type 0} (p : X → Bool) (xs : List X) → ((i : ℕ) (d : X) → i < length xs → p (get_or xs i d) ≡ false) → filter p xs ≡ []
 none_kept p [] h = refl
 none_kept p (x ∷ xs) h = cond-false (p x) _ _ (h 0 x (omega arith)) ∙ none_kept p xs (λ i d l. h (suc i) d (omega arith))
 
-all_kept : {X : Type 0} (p : X → Bool) (xs : List X) → ((i : ℕ) (d : X) → i < length xs → p (get_or xs i d) ≡ true) → filter p xs ≡ xs
+pub all_kept : {X : Type 0} (p : X → Bool) (xs : List X) → ((i : ℕ) (d : X) → i < length xs → p (get_or xs i d) ≡ true) → filter p xs ≡ xs
 all_kept p [] h = refl
 all_kept p (x ∷ xs) h = cond-true (p x) _ _ (h 0 x (omega arith)) ∙ ap (λ l. x ∷ l) (all_kept p xs (λ i d l. h (suc i) d (omega arith)))
 

@@ -57,13 +57,6 @@ some_either false x o e = e
 pub inserted_keeps : (places : Places) (id n : ℕ) → is_some (place_of places 0) ≡ true → is_some (place_of (finite.insert places id n) 0) ≡ true
 inserted_keeps places id n e = ap is_some (get-insert nat_cmp_total places id n 0) ∙ some_either (eq_by_cmp nat_cmp 0 id) n (place_of places 0) e
 
-pub registered_keeps : (places : Places) (id n : ℕ) → is_some (place_of places 0) ≡ true → is_some (place_of (registered places id n) 0) ≡ true
-registered_keeps places id n e = if_either (is_some (place_of places id)) e (inserted_keeps places id n e)
-  where
-    if_either : (b : Bool) → is_some (place_of places 0) ≡ true → is_some (place_of (finite.insert places id n) 0) ≡ true → is_some (place_of (cond b places (finite.insert places id n)) 0) ≡ true
-    if_either true x y = x
-    if_either false x y = y
-
 pub advanced_keeps : (places : Places) (id n : ℕ) → is_some (place_of places 0) ≡ true → is_some (place_of (advanced places id n) 0) ≡ true
 advanced_keeps places id n e = if_either (may_advance (place_of places id) n) (inserted_keeps places id n e) e
   where

@@ -35,7 +35,7 @@ beyond place end low high (c ∷ cs) r m =
     let on : c.seq ≤ high = rises_le c.seq high cs r.1 in
     cond-false _ _ _ (and_left (ltb place c.seq) (leb c.seq end) (le-ltb place c.seq (omega arith))) ∙ beyond place end c.seq high cs r.1 m
 
-all_above : (low high : ℕ) (cs : List Change) → Rises low high cs → items_above low cs ≡ cs
+pub all_above : (low high : ℕ) (cs : List Change) → Rises low high cs → items_above low cs ≡ cs
 all_above low high cs r = by low cs (λ x i. (rises_in low high cs x r i).0)
   where
     by : (n : ℕ) (xs : List Change) → ((x : Change) → IsIn x xs → n < x.seq) → items_above n xs ≡ xs
@@ -117,7 +117,7 @@ part_of place low high w (x ∷ xs) r k = by (ltb place x.seq) (ltb w.above x.se
     by false false false p q ih = ih
 
 -- changes that rise within closer bounds
-closer : (low high a b : ℕ) (xs : List Change) → Rises low high xs → a ≤ b → ((x : Change) → IsIn x xs → (a < x.seq) × (x.seq ≤ b)) → Rises a b xs
+pub closer : (low high a b : ℕ) (xs : List Change) → Rises low high xs → a ≤ b → ((x : Change) → IsIn x xs → (a < x.seq) × (x.seq ≤ b)) → Rises a b xs
 closer low high a b [] r k f = k
 closer low high a b (x ∷ xs) r k f = let n = f x (inl refl) in (n.0, closer x.seq high x.seq b xs r.1 n.1 (λ y i. ((rises_in x.seq high xs y r.1 i).0, (f y (inr i)).1)))
 

@@ -1,11 +1,15 @@
 -- what takes, changes, seals and resets make of a list, in other words
-use Rattle.std.specs.Prelude.{◌≡◌, ◌≢◌, ◌↔◌, ◌⊎◌, ℕ, ◌<◌, ◌≤◌, List, [], ◌∷◌, Some, None}
+use Rattle.std.specs.Prelude.{◌≡◌, ◌≢◌, ◌↔◌, ◌⊎◌, ℕ, ◌<◌, ◌≤◌, List, [], ◌∷◌, ◌++◌, length, Some, None}
+use Rattle.std.specs.FinMap as finite
+use Rattle.std.specs.List.{All}
 use Rattle.vb_types.specs.declared.change.Change.{Change}
 use Rattle.vb_types.specs.Histories.{IsIn}
 use Rattle.vb_calls.specs.declared.span.Origin.{Origin}
+use Rattle.vb_calls.specs.declared.span.Span.{Span}
 use Rattle.cursor_set.specs.Cursors.{place_of}
-use Rattle.ckpt_list.specs.Lists.{Ckpts, ckpts_at, ends_of, held_of, high_of, queued, sealed_list, taken_by}
+use Rattle.ckpt_list.specs.Lists.{Ckpts, ckpts_at, ends_of, held_of, high_of, moved_cursor, queued, sealed_list, taken_by}
 use Rattle.ckpt_list.specs.Sound.{IsSound}
+use Rattle.ckpt_list.specs.Trims.{trimmed}
 
 -- n is one of the list
 abbrev pub IsAmong : ℕ → List ℕ → Type 0
@@ -66,3 +70,36 @@ pub record Resets (at : ℕ) (o : Origin) : Type 0 where
 -- at every seqno
 abbrev pub ResetsAlone : Type 0
 ResetsAlone = (at : ℕ) (o : Origin) → Resets at o
+
+-- a span ends above what is saved, or above some cursor
+abbrev pub IsWanted : Ckpts → ℕ → Span → Type 0
+IsWanted l saved w = (saved < w.last) ⊎ ((id : ℕ) × (place : ℕ) × (place_of l.places id ≡ Some place) × (place < w.last))
+
+-- m is l after a trim of which `count` is told: a front of the sealed checkpoints goes, so many; each that goes ends at most at the saved number and at every cursor's place; the first sealed one that stays, if there is one, ends above one of these; the floor is where the last one ended that went; the open checkpoint, and each cursor, is as it was; and a live change goes exactly where it is not above the floor
+pub record Trims (l m : Ckpts) (saved count : ℕ) : Type 0 where
+  pub gone : List Span
+  pub front : l.sealed ≡ gone ++ m.sealed
+  pub number : count ≡ length gone
+  pub written : All (λ w. w.last ≤ saved) gone
+  pub given : (id place : ℕ) → place_of l.places id ≡ Some place → All (λ w. w.last ≤ place) gone
+  pub first : (w : Span) (ws : List Span) → m.sealed ≡ w ∷ ws → IsWanted l saved w
+  pub still : gone ≡ [] → m ≡ l
+  pub floor : (w : Span) (ws : List Span) → gone ≡ ws ++ w ∷ [] → m.floor ≡ w.last
+  pub newest : m.newest ≡ l.newest
+  pub places : m.places ≡ l.places
+  pub live : (c : Change) → IsIn c (held_of m) ↔ (IsIn c (held_of l) × (m.floor < c.seq))
+
+-- of every list and saved number
+abbrev pub TrimsExactly : Type 0
+TrimsExactly = (l : Ckpts) (saved : ℕ) → IsSound l → Trims l (trimmed l saved).0 saved (trimmed l saved).1
+
+-- a cursor that is put at a place is there, whether it was there before or not, and one that is dropped is not; no other one moves
+pub record Puts (l : Ckpts) (id : ℕ) : Type 0 where
+  pub put : (place : ℕ) → place_of (moved_cursor l id place).places id ≡ Some place
+  pub others : (place other : ℕ) → other ≢ id → place_of (moved_cursor l id place).places other ≡ place_of l.places other
+  pub gone : place_of (finite.remove l.places id) id ≡ None
+  pub stay : (other : ℕ) → other ≢ id → place_of (finite.remove l.places id) other ≡ place_of l.places other
+
+-- of every list and cursor
+abbrev pub PutsExactly : Type 0
+PutsExactly = (l : Ckpts) (id : ℕ) → Puts l id

@@ -4,20 +4,23 @@ ghost use Rattle.std.specs.FinMap as finite;
 ghost use Rattle.std.specs.List.{find};
 ghost use Rattle.vb_calls.specs.Spans.{all_spans, is_whole};
 ghost use Rattle.vb_calls.specs.declared.span.Origin.TheVariants.{Own};
-ghost use Rattle.cursor_set.specs.Cursors.{place_of, may_advance, registered};
+ghost use Rattle.cursor_set.specs.Cursors.{place_of, may_advance};
 ghost use Rattle.ckpt_list.specs.Sound.{IsBatch, end_reaching};
+ghost use Rattle.ckpt_list.specs.Trims.{trimmed};
 ghost use Rattle.ckpt_list.specs.Windows.{ArePartsAbove, queued_all};
 ghost use Rattle.ckpt_list.specs.Lists.{between, reach_of, ckpts_at, high_of, moved_cursor, spans_of, held_of, sealed_list, queued, stop_of, taken_by, window_of};
 
 use crate::parts::{
     copies, end_above, ends_whole, first_above, first_seen, is_own, is_split_at, position_of,
-    stretch, unless_split,
+    unless_split,
 };
+use crate::trims::{shed_ends, shed_items, shed_spans};
 use crate::windows::{make_room, put_all, reopen, seal_all, seal_behind, span_of};
 use checkpoint::{Checkpoint, weight_of};
 use cursor_set::CursorSet;
 use std::alloc::{AllocError, Global};
 use std::cmp::max;
+use std::collections::VecDeque;
 use std::marker::Model;
 use vb_calls::{MAX_WEIGHT, Origin, Span};
 use vb_types::{Change, Listed, Position};
@@ -26,14 +29,14 @@ use vb_types::{Change, Listed, Position};
 #[derive(Drop)]
 pub struct CkptList {
     alloc: Global,
-    sealed: Vec<Span>,
+    sealed: VecDeque<Span>,
     /// The live changes of the sealed checkpoints, by rising seqno.
-    items: Vec<Change>,
+    items: VecDeque<Change>,
     /// The open one.
     newest: Checkpoint,
     cursors: CursorSet,
     /// Where sealed checkpoints end that no part of a received snapshot of a sealed one goes beyond.
-    wholes: Vec<u64>,
+    wholes: VecDeque<u64>,
     floor: u64,
 }
 
@@ -70,11 +73,11 @@ impl CkptList {
         cursors.register(0, at)?;
         Ok(CkptList {
             alloc,
-            sealed: Vec::new(alloc),
-            items: Vec::new(alloc),
+            sealed: VecDeque::new(alloc),
+            items: VecDeque::new(alloc),
             newest: Checkpoint::new(alloc, at, Origin::Own),
             cursors,
-            wholes: Vec::new(alloc),
+            wholes: VecDeque::new(alloc),
             floor: at,
         })
     }
@@ -289,7 +292,7 @@ impl CkptList {
         requires { self.now.newest.above < end → high_of self.now ≤ end }
         ensures { IfOk result (λ items. items ≡ between place end (held_of self.now)) }
     {
-        let mut items = copies(self.alloc, stretch(&self.items, place, end))?;
+        let mut items = copies(self.alloc, &self.items, place, end)?;
         if end <= self.newest.above() {
             return Ok(items);
         }
@@ -330,14 +333,15 @@ impl CkptList {
         }
     }
 
-    /// A new cursor, and whether it is new: one that is there stays where it is. An `Err` changes
-    /// nothing.
+    /// Makes a cursor, or moves the one that is there, and whether it is new. An `Err` changes nothing.
     pub fn place_cursor(&mut self, id: u64, place: u64) -> Result<bool, AllocError>
-        ensures ok { OnOk result (self.new ≡ record self.old { places = registered self.old.places id place }) }
+        ensures ok { OnOk result (self.new ≡ moved_cursor self.old id place) }
         ensures new { IfOk result (λ fresh. fresh ≡ not (is_some (place_of self.old.places id))) }
         ensures err { OnErr result (self.new ≡ self.old) }
     {
-        self.cursors.register(id, place)
+        let fresh = self.cursors.place(id).is_none();
+        self.cursors.put(id, place)?;
+        Ok(fresh)
     }
 
     /// The place of a cursor.
@@ -361,6 +365,19 @@ impl CkptList {
         ensures there { result ≡ is_some (place_of self.old.places id) }
     {
         self.cursors.remove(id)
+    }
+
+    /// Takes the sealed checkpoints away that end at most at the saved number and at each cursor's place,
+    /// and how many these are. Takes no memory.
+    pub fn trim(&mut self, saved: u64) -> u64
+        ensures { (self.new, result) ≡ trimmed self.old saved }
+    {
+        let to = self.cursors.least_with(saved);
+        let before = self.sealed.len();
+        self.floor = shed_spans(&mut self.sealed, to, self.floor);
+        shed_items(&mut self.items, self.floor);
+        shed_ends(&mut self.wholes, self.floor);
+        (before - self.sealed.len()) as u64
     }
 
     /// Empties the list: the next changes lie above a seqno, where the cursor 0 stands and no other.

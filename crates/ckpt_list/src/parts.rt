@@ -1,5 +1,5 @@
 //! What is found among spans and changes.
-ghost use Rattle.std.specs.Prelude.{◌≡◌, ℕ, ◌<◌, ◌≤◌, ◌&&◌, not, nat_lt, take, drop, length, IfOk};
+ghost use Rattle.std.specs.Prelude.{◌≡◌, ℕ, ◌<◌, ◌≤◌, ◌&&◌, ◌++◌, not, nat_lt, take, drop, length, IfOk, OnOk};
 ghost use Rattle.std.specs.List.{find, filter, All};
 ghost use Rattle.std.specs.List.Sorted.{IsNonDecreasingBy};
 ghost use Rattle.std.specs.Option.{option_copied, option_map};
@@ -11,6 +11,7 @@ ghost use Rattle.ckpt_list.specs.Lists as spec;
 ghost use Rattle.ckpt_list.specs.Sound.{whole_by};
 
 use std::alloc::{AllocError, Global};
+use std::collections::VecDeque;
 use vb_calls::{Origin, Span};
 use vb_types::{Act, Change, Listed, Position};
 
@@ -35,7 +36,15 @@ pub fn is_split_at(span: &Span, n: u64) -> bool
 }
 
 /// Whether no span goes on above `n` that is of a received snapshot which starts below `n`.
-pub fn ends_whole(spans: &[Span], n: u64) -> bool
+pub fn ends_whole(spans: &VecDeque<Span>, n: u64) -> bool
+    ensures { result ≡ is_whole n spans.now.items }
+{
+    let (front, back) = spans.as_slices();
+    are_whole(front, n) && are_whole(back, n)
+}
+
+/// The same of a part of them.
+fn are_whole(spans: &[Span], n: u64) -> bool
     ensures { result ≡ is_whole n spans.now }
 {
     spans.iter().all(|span| !is_split_at(span, n))
@@ -93,7 +102,7 @@ fn above(items: &[Change], n: u64) -> &[Change]
 }
 
 /// The changes of these, which rise, above a place and up to a seqno.
-pub fn stretch(items: &[Change], place: u64, end: u64) -> &[Change]
+fn stretch(items: &[Change], place: u64, end: u64) -> &[Change]
     requires { IsNonDecreasingBy (λ (c : Change). c.seq) items.now }
     ensures { result.now ≡ spec.between place end items.now }
 {
@@ -109,7 +118,19 @@ fn seen(items: &[Change], sync: bool) -> Option<&Change>
 }
 
 /// The seqno of the first of these changes, which rise, above a place that a stream sees.
-pub fn first_seen(items: &[Change], place: u64, sync: bool) -> Option<u64>
+pub fn first_seen(items: &VecDeque<Change>, place: u64, sync: bool) -> Option<u64>
+    requires { IsNonDecreasingBy (λ (c : Change). c.seq) items.now.items }
+    ensures { result ≡ option_map (λ c. c.seq) (find (λ c. is_seen sync c.act) (items_above place items.now.items)) }
+{
+    let (front, back) = items.as_slices();
+    match first_seen_in(front, place, sync) {
+        Some(seq) => Some(seq),
+        None => first_seen_in(back, place, sync),
+    }
+}
+
+/// The same of a part of them.
+fn first_seen_in(items: &[Change], place: u64, sync: bool) -> Option<u64>
     requires { IsNonDecreasingBy (λ (c : Change). c.seq) items.now }
     ensures { result ≡ option_map (λ c. c.seq) (find (λ c. is_seen sync c.act) (items_above place items.now)) }
 {
@@ -120,9 +141,9 @@ pub fn first_seen(items: &[Change], place: u64, sync: bool) -> Option<u64>
 }
 
 /// The first of these spans, which follow one another, that goes on above a seqno.
-pub fn end_above(spans: &[Span], n: u64) -> Option<Span>
-    requires { IsNonDecreasingBy (λ (w : Span). w.last) spans.now }
-    ensures { result ≡ find (λ w. nat_lt n w.last) spans.now }
+pub fn end_above(spans: &VecDeque<Span>, n: u64) -> Option<Span>
+    requires { IsNonDecreasingBy (λ (w : Span). w.last) spans.now.items }
+    ensures { result ≡ find (λ w. nat_lt n w.last) spans.now.items }
 {
     let at = spans.partition_point(|span| span.last <= n);
     if at < spans.len() {
@@ -133,9 +154,9 @@ pub fn end_above(spans: &[Span], n: u64) -> Option<Span>
 }
 
 /// The first of these ends, which rise, above a seqno.
-pub fn first_above(ends: &[u64], n: u64) -> Option<u64>
-    requires { IsNonDecreasingBy (λ (e : ℕ). e) ends.now }
-    ensures { result ≡ find (λ e. nat_lt n e) ends.now }
+pub fn first_above(ends: &VecDeque<u64>, n: u64) -> Option<u64>
+    requires { IsNonDecreasingBy (λ (e : ℕ). e) ends.now.items }
+    ensures { result ≡ find (λ e. nat_lt n e) ends.now.items }
 {
     let at = ends.partition_point(|end| *end <= n);
     if at < ends.len() {
@@ -147,11 +168,11 @@ pub fn first_above(ends: &[u64], n: u64) -> Option<u64>
 
 /// How many of these ends, which rise and lie below the end of a span, the span does not go beyond with a
 /// received snapshot.
-pub fn kept_by(ends: &[u64], span: &Span) -> usize
-    requires rise { IsNonDecreasingBy (λ (e : ℕ). e) ends.now }
-    requires below { All (λ e. e < span.now.last) ends.now }
-    ensures bound { result ≤ length ends.now }
-    ensures kept { take result ends.now ≡ filter (λ e. not (nat_lt e span.now.last && starts_below e span.now.origin)) ends.now }
+pub fn kept_by(ends: &VecDeque<u64>, span: &Span) -> usize
+    requires rise { IsNonDecreasingBy (λ (e : ℕ). e) ends.now.items }
+    requires below { All (λ e. e < span.now.last) ends.now.items }
+    ensures bound { result ≤ length ends.now.items }
+    ensures kept { take result ends.now.items ≡ filter (λ e. not (nat_lt e span.now.last && starts_below e span.now.origin)) ends.now.items }
 {
     match span.origin {
         Origin::Own => ends.len(),
@@ -159,13 +180,29 @@ pub fn kept_by(ends: &[u64], span: &Span) -> usize
     }
 }
 
-/// Copies of changes.
-pub fn copies(alloc: Global, items: &[Change]) -> Result<Listed<Change>, AllocError>
-    ensures { IfOk result (λ copies. copies ≡ items.now) }
+/// Copies of the changes of these, which rise, above a place and up to a seqno.
+pub fn copies(
+    alloc: Global,
+    items: &VecDeque<Change>,
+    place: u64,
+    end: u64,
+) -> Result<Listed<Change>, AllocError>
+    requires { IsNonDecreasingBy (λ (c : Change). c.seq) items.now.items }
+    ensures { IfOk result (λ copies. copies ≡ spec.between place end items.now.items) }
 {
+    let (front, back) = items.as_slices();
     let mut copies = Listed::new(alloc);
+    copy_to(&mut copies, stretch(front, place, end))?;
+    copy_to(&mut copies, stretch(back, place, end))?;
+    Ok(copies)
+}
+
+/// Appends copies of changes. An `Err` may have appended some.
+fn copy_to(copies: &mut Listed<Change>, items: &[Change]) -> Result<(), AllocError>
+    ensures { OnOk result (copies.new ≡ copies.old ++ items.now) }
+{
     for change in items {
         copies.push(change.copy()?)?;
     }
-    Ok(copies)
+    Ok(())
 }

@@ -1,7 +1,7 @@
 //! Checkpoints that are full, before they are sealed and when they are.
-ghost use Rattle.std.specs.Prelude.{◌≡◌, ℕ, ◌+◌, ◌<◌, ◌≤◌, ◌++◌, [], Some, length, option_to_list, vec_capacity, IfOk, OnOk, OnErr};
+ghost use Rattle.std.specs.Prelude.{◌≡◌, ℕ, ◌+◌, ◌<◌, ◌≤◌, ◌++◌, [], Some, length, option_to_list, IfOk, OnOk, OnErr};
 ghost use Rattle.std.specs.List.{fold, All, AllByRecursion};
-ghost use Rattle.std.specs.VecDeque.{deque_len};
+ghost use Rattle.std.specs.VecDeque.{deque_capacity, deque_len};
 ghost use Rattle.std.specs.List.Sorted.{IsNonDecreasingBy};
 ghost use Rattle.vb_calls.specs.declared.span.Span.{Span as TheSpan};
 ghost use Rattle.checkpoint.specs.Checkpoints.{ckpt_last, ckpt_span, cut_to, empty_ckpt, items_weight};
@@ -31,18 +31,18 @@ pub fn span_of(window: &Checkpoint) -> Option<Span>
 
 /// Room for so many more sealed checkpoints, and changes in them. An `Err` changes nothing.
 pub fn make_room(
-    sealed: &mut Vec<Span>,
-    items: &mut Vec<Change>,
-    wholes: &mut Vec<u64>,
+    sealed: &mut VecDeque<Span>,
+    items: &mut VecDeque<Change>,
+    wholes: &mut VecDeque<u64>,
     windows: usize,
     changes: usize,
 ) -> Result<(), AllocError>
     ensures sealed { sealed.new.items ≡ sealed.old.items }
     ensures items { items.new.items ≡ items.old.items }
     ensures wholes { wholes.new.items ≡ wholes.old.items }
-    ensures sealed_room { OnOk result (length sealed.new.items + windows ≤ vec_capacity sealed.new) }
-    ensures items_room { OnOk result (length items.new.items + changes ≤ vec_capacity items.new) }
-    ensures wholes_room { OnOk result (length wholes.new.items + windows ≤ vec_capacity wholes.new) }
+    ensures sealed_room { OnOk result (length sealed.new.items + windows ≤ deque_capacity sealed.new) }
+    ensures items_room { OnOk result (length items.new.items + changes ≤ deque_capacity items.new) }
+    ensures wholes_room { OnOk result (length wholes.new.items + windows ≤ deque_capacity wholes.new) }
 {
     sealed.reserve(windows)?;
     wholes.reserve(windows)?;
@@ -51,20 +51,20 @@ pub fn make_room(
 
 /// Puts a checkpoint, if it has changes, behind sealed ones, where there is room. Takes no memory.
 pub fn seal_behind(
-    sealed: &mut Vec<Span>,
-    items: &mut Vec<Change>,
-    wholes: &mut Vec<u64>,
+    sealed: &mut VecDeque<Span>,
+    items: &mut VecDeque<Change>,
+    wholes: &mut VecDeque<u64>,
     window: &mut Checkpoint,
 )
-    requires sealed_room { length sealed.now.items < vec_capacity sealed.now }
-    requires items_room { length items.now.items + length window.now.items ≤ vec_capacity items.now }
-    requires wholes_room { length wholes.now.items < vec_capacity wholes.now }
+    requires sealed_room { length sealed.now.items < deque_capacity sealed.now }
+    requires items_room { length items.now.items + length window.now.items ≤ deque_capacity items.now }
+    requires wholes_room { length wholes.now.items < deque_capacity wholes.now }
     requires rise { IsNonDecreasingBy (λ (e : ℕ). e) wholes.now.items }
     requires below { (w : TheSpan) → ckpt_span window.now ≡ Some w → All (λ e. e < w.last) wholes.now.items }
     ensures sealed { sealed.new.items ≡ sealed.old.items ++ option_to_list (ckpt_span window.old) }
     ensures items { items.new.items ≡ items.old.items ++ window.old.items }
     ensures wholes { wholes.new.items ≡ ends_behind (ckpt_span window.old) wholes.old.items }
-    ensures room { (vec_capacity sealed.old ≤ vec_capacity sealed.new) × (vec_capacity items.old ≤ vec_capacity items.new) × (vec_capacity wholes.old ≤ vec_capacity wholes.new) }
+    ensures room { (deque_capacity sealed.old ≤ deque_capacity sealed.new) × (deque_capacity items.old ≤ deque_capacity items.new) × (deque_capacity wholes.old ≤ deque_capacity wholes.new) }
     ensures empty { window.new ≡ empty_ckpt (ckpt_last window.old) window.old.origin }
     ensures light { items_weight window.old.items ≤ MAX_WEIGHT }
 {
@@ -72,22 +72,22 @@ pub fn seal_behind(
     window.seal_in_room(items);
     if let Some(span) = span {
         let kept = kept_by(wholes, &span);
-        sealed.push(span).unwrap();
+        sealed.push_back_reserved(span);
         wholes.truncate(kept);
-        wholes.push(span.last).unwrap();
+        wholes.push_back_reserved(span.last);
     }
 }
 
 /// Puts checkpoints behind sealed ones, the oldest first, where there is room. Takes no memory.
 pub fn seal_all(
-    sealed: &mut Vec<Span>,
-    items: &mut Vec<Change>,
-    wholes: &mut Vec<u64>,
+    sealed: &mut VecDeque<Span>,
+    items: &mut VecDeque<Change>,
+    wholes: &mut VecDeque<u64>,
     mut full: VecDeque<Checkpoint>,
 )
-    requires sealed_room { length sealed.now.items + deque_len full ≤ vec_capacity sealed.now }
-    requires items_room { length items.now.items + count_in full.items ≤ vec_capacity items.now }
-    requires wholes_room { length wholes.now.items + deque_len full ≤ vec_capacity wholes.now }
+    requires sealed_room { length sealed.now.items + deque_len full ≤ deque_capacity sealed.now }
+    requires items_room { length items.now.items + count_in full.items ≤ deque_capacity items.now }
+    requires wholes_room { length wholes.now.items + deque_len full ≤ deque_capacity wholes.now }
     requires can { CanSeal wholes.now.items full.items }
     ensures sealed { record { spans = sealed.new.items; items = items.new.items; ends = wholes.new.items } ≡ fold sealed_behind (record { spans = sealed.old.items; items = items.old.items; ends = wholes.old.items }) full.items }
     ensures light { AllByRecursion (λ w. items_weight w.items ≤ MAX_WEIGHT) full.items }

@@ -6,3 +6,5 @@
 mod lists;
 #[cfg(test)]
 mod several;
+#[cfg(test)]
+mod trims;

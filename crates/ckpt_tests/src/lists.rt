@@ -6,7 +6,7 @@ use vb_calls::Origin;
 use vb_types::{Act, Change, Key};
 
 /// Queues a removal of the key that this number spells, and its seqno.
-fn put(list: &mut CkptList, alloc: Global, n: u64) -> Result<u64, Fail> {
+pub fn put(list: &mut CkptList, alloc: Global, n: u64) -> Result<u64, Fail> {
     let seq = list.high().checked_add(1).ok_or("seqno")?;
     let key = Key::new(alloc, &n.to_be_bytes())?.ok_or("key")?;
     let act = Act::Remove { cas: seq, rev: 1 };

@@ -17,11 +17,14 @@ at_itself n = ap is_eq (sym (nat_cmp_is n n Equal refl))
 at_another : (m n : ℕ) → m ≢ n → eq_by_cmp nat_cmp m n ≡ false
 at_another m n h = elim (eq_by_cmp nat_cmp m n) as (λ v. eq_by_cmp nat_cmp m n ≡ v → v ≡ false) [ true ↦ λ e. absurd (h (same m n e)) | false ↦ λ e. refl ] refl
 
-inserted_here : (m : Places) (id n : ℕ) → place_of (map.insert m id n) id ≡ Some n
+pub inserted_here : (m : Places) (id n : ℕ) → place_of (map.insert m id n) id ≡ Some n
 inserted_here m id n = get-insert nat_cmp_total m id n id ∙ ap (λ b. cond b (Some n) (map.get m id)) (at_itself id)
 
 inserted_there : (m : Places) (id n other : ℕ) → other ≢ id → place_of (map.insert m id n) other ≡ place_of m other
 inserted_there m id n other h = get-insert nat_cmp_total m id n other ∙ ap (λ b. cond b (Some n) (map.get m other)) (at_another other id h)
+
+pub removed_here : (m : Places) (id : ℕ) → place_of (map.remove m id) id ≡ None
+removed_here m id = get-remove nat_cmp_total m id id ∙ ap (λ b. cond b None (map.get m id)) (at_itself id)
 
 -- a place that is set by a test, or not
 set_there : (m : Places) (id n other : ℕ) (b : Bool) → other ≢ id → place_of (if b then map.insert m id n else m) other ≡ place_of m other
@@ -36,6 +39,7 @@ pub cursors_apart : CursorsApart
 cursors_apart m id other h = record {
   registered = λ place. set_not m id place other (is_some (place_of m id)) h;
   advanced = λ to. set_there m id to other (may_advance (place_of m id) to) h;
+  put = λ at. inserted_there m id at other h;
   removed = get-remove nat_cmp_total m id other ∙ ap (λ b. cond b None (map.get m other)) (at_another other id h);
 }
 
@@ -49,10 +53,12 @@ cursors_move = record {
   there = λ m id place e. record {
     registered = λ at. ap (λ o. place_of (if is_some o then m else map.insert m id at) id) e ∙ e;
     advanced = λ to. ap (λ o. place_of (if may_advance o to then map.insert m id to else m) id) e ∙ gone_on m id place to (nat_le place to) e refl;
-    removed = get-remove nat_cmp_total m id id ∙ ap (λ b. cond b None (map.get m id)) (at_itself id);
+    put = λ at. inserted_here m id at;
+    removed = removed_here m id;
   };
   absent = λ m id e. record {
     registered = λ at. ap (λ o. place_of (if is_some o then m else map.insert m id at) id) e ∙ inserted_here m id at;
     advanced = λ to. ap (λ o. place_of (if may_advance o to then map.insert m id to else m) id) e ∙ e;
+    put = λ at. inserted_here m id at;
   };
 }

@@ -1,6 +1,7 @@
 -- cursors: the place of each, by its number
-use Rattle.std.specs.Prelude.{◌≡◌, ℕ, ◌≤◌, Bool, false, if◌then◌else◌, nat_le, Option, Some, None, is_some}
+use Rattle.std.specs.Prelude.{◌≡◌, ℕ, ◌≤◌, Bool, false, if◌then◌else◌, nat_le, min, Option, Some, None, is_some}
 use Rattle.std.specs.FinMap as map
+use Rattle.std.specs.List.{fold}
 use Rattle.std.specs.Ordering.{nat_cmp}
 
 -- the seqno up to which each cursor was given changes
@@ -28,3 +29,12 @@ advanced places id to = if may_advance (place_of places id) to then map.insert p
 pub record IsLeast (places : Places) (n : ℕ) : Type 0 where
   pub there : (id : ℕ) × (place_of places id ≡ Some n)
   pub least : (id place : ℕ) → place_of places id ≡ Some place → n ≤ place
+
+-- the lesser of n and a place, if there is one
+abbrev pub min_with : ℕ → Option ℕ → ℕ
+min_with n None = n
+min_with n (Some place) = min n place
+
+-- the least of n and all places
+abbrev pub least_with : Places → ℕ → ℕ
+least_with places n = fold (λ m id. min_with m (place_of places id)) n (map.keys places)

@@ -4,9 +4,10 @@ ghost use Rattle.std.specs.FinMap as map;
 ghost use Rattle.std.specs.BTreeMap as tree;
 ghost use Rattle.std.specs.Ordering.{nat_cmp};
 ghost use Rattle.std.specs.List.{All, Contains};
-ghost use Rattle.cursor_set.specs.Cursors.{place_of, registered, may_advance, advanced, IsLeast};
+ghost use Rattle.cursor_set.specs.Cursors.{place_of, registered, may_advance, advanced, IsLeast, least_with};
 
 use std::alloc::{AllocError, Global};
+use std::cmp::min;
 use std::collections::BTreeMap;
 use std::marker::Model;
 
@@ -95,6 +96,14 @@ impl CursorSet {
         least_of(&self.places).unwrap()
     }
 
+    /// The least of a number and all places, where the cursor 0 is there. Takes no memory.
+    pub fn least_with(&self, n: u64) -> u64
+        requires { is_some (place_of self.now 0) ≡ true }
+        ensures { result ≡ least_with self.now n }
+    {
+        min(n, self.least())
+    }
+
     /// Leaves the cursor 0 alone, at a place. Takes no memory.
     pub fn reset(&mut self, place: u64)
         requires { is_some (place_of self.now 0) ≡ true }
@@ -105,8 +114,9 @@ impl CursorSet {
         put.unwrap();
     }
 
-    /// Puts a cursor at a place; takes no memory for one that is there. An `Err` changes nothing.
-    fn put(&mut self, id: u64, place: u64) -> Result<(), AllocError>
+    /// Puts a cursor at a place, whether it was there or not; takes no memory for one that was. An `Err`
+    /// changes nothing.
+    pub fn put(&mut self, id: u64, place: u64) -> Result<(), AllocError>
         ensures ok { OnOk result (self.new ≡ map.insert self.old id place) }
         ensures err { OnErr result (self.new ≡ self.old) }
         ensures there { is_some (place_of self.old id) ≡ true → IsOk result }

@@ -6,7 +6,7 @@ use Rattle.std.proofs.lemmas.List.{take-append-drop}
 use Rattle.std.proofs.lemmas.List.Sums.{fold_more}
 use Rattle.vb_calls.specs.declared.calls.VbCall.{VbCall}
 use Rattle.vb_calls.specs.declared.calls.VbReply.{VbReply}
-use Rattle.vb_calls.specs.Jobs.{Job, Ended, Call, Request, bind_job, next_job, each_job, lift, RanJob, BeganJob}
+use Rattle.vb_calls.specs.Jobs.{Job, Ended, Call, Request, bind_job, next_job, each_job, lift, RanJob, BeganJob, RanRequests, BeganRequests}
 use Rattle.vb_calls.specs.Programs.{Prog, Ran, Began}
 use Rattle.vb_calls.specs.Programs as prog
 use Rattle.vb_calls.specs.Shelves.{Ask, Got}
@@ -94,8 +94,22 @@ module _ {W J : Type 0} (step : W → ℕ → VbCall → Option VbReply → W �
   pub ran_lift_began : {A B : Type 0} (p : Prog A) (k : A → Job B) (old : W) (a : A) (mid : W) (kept : J) (new : W) (left : J) → Ran step p old a mid → BeganJob step asks (k a) mid kept new left → BeganJob step asks (bind_job (lift p) k) old kept new left
   ran_lift_began p k old a mid kept new left first second = ran_began_job (lift p) k old kept a mid kept new left (ran_lift p old a mid kept first) second
 
+  -- a job that asks journals alone ran, while vBuckets stayed as they were
+  pub ran_requests : {A : Type 0} (job : Job A) (old : W) (kept : J) (a : A) (left : J) → RanRequests asks job kept a left → RanJob step asks job old kept a old left
+  ran_requests (Ended x) old kept a left ran = (ran.0, refl, ran.2)
+  ran_requests (Call v call next) old kept a left ran = absurd ran.2
+  ran_requests (Request v ask next) old kept a left ran = (ran.0, ran.1, ran.2, ran_requests (next ran.0) old ran.1 a left ran.3)
+
+  -- one that began
+  pub began_requests : {A : Type 0} (job : Job A) (old : W) (kept left : J) → BeganRequests asks job kept left → BeganJob step asks job old kept old left
+  began_requests (Ended x) old kept left begun = (refl, begun.1)
+  began_requests (Call v call next) old kept left (inl same) = inl (refl, same.1)
+  began_requests (Call v call next) old kept left (inr more) = absurd more.2
+  began_requests (Request v ask next) old kept left (inl short) = inl (refl, short.1)
+  began_requests (Request v ask next) old kept left (inr more) = inr (more.0, more.1, more.2, began_requests (next more.0) old more.1 left more.3)
+
   -- one that began, of a job that goes on
   pub began_lift_bind : {A B : Type 0} (p : Prog A) (k : A → Job B) (old new : W) (kept : J) → Began step p old new → BeganJob step asks (bind_job (lift p) k) old kept new kept
   began_lift_bind p k old new kept begun = began_bind_job (lift p) k old kept new kept (began_lift p old new kept begun)
 
-pub ruleset jobs = (ran_bind_job, ran_began_job, began_bind_job, began_none_job, each_job_next, each_job_began, ran_lift, began_lift, ran_lift_bind, ran_lift_began, began_lift_bind)
+pub ruleset jobs = (ran_bind_job, ran_began_job, began_bind_job, began_none_job, each_job_next, each_job_began, ran_lift, began_lift, ran_lift_bind, ran_lift_began, began_lift_bind, ran_requests, began_requests)

@@ -4,6 +4,9 @@ pub mod Readings
 pub mod RolesNoted
 pub mod Conduct
 pub mod Binds
+pub mod Placing
 pub mod JobRuns
 pub mod JobReadings
 pub mod JobConduct
+pub mod Faults
+pub mod Tellings

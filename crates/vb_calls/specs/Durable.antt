@@ -107,6 +107,6 @@ tick_row vb clock = if_active vb (then_settled (expired clock vb))
 abbrev pub pending_prepares : Plain → List Pend
 pending_prepares vb = map (λ e. e.1) (finite.entries (image_in vb).pending)
 
--- what a vBucket that follows another one may acknowledge
+-- what a vBucket that follows another one may acknowledge, and up to where it has written all down
 abbrev pub due_row : Plain → VbReply
-due_row vb = if is_follower vb.role then quiet_reply (answer.Num (due (pending_prepares vb) (fork_of vb.position) vb.saved)) else refusal_reply status.NotMyVbucket
+due_row vb = if is_follower vb.role then quiet_reply (answer.Dues (due (pending_prepares vb) (fork_of vb.position) vb.saved) vb.saved) else refusal_reply status.NotMyVbucket

@@ -103,9 +103,20 @@ part_job v part.All flush = all_job v flush
 unfoldable pub flush_job : ℕ → FlushPart → Job Flushed
 flush_job v part = Request v Look (part_job v part)
 
--- the vBucket goes back to a point that the records tell, with the image there
+-- what an answer to a rollback says: how far the vBucket went back, or why it did not
+abbrev pub rolled_in : VbAnswer → Rolled
+rolled_in (answer.Num now) = rolled.To now
+rolled_in (answer.Status st) = rolled.Refused st
+rolled_in other = rolled.Refused status.NotMyVbucket
+
+-- the same of a reply, where there is such a vBucket
+abbrev pub rolled_by : Option VbReply → Rolled
+rolled_by None = rolled.Refused status.NotMyVbucket
+rolled_by (Some reply) = rolled_in reply.answer
+
+-- the vBucket is to go back to a point that the records tell, with the image there; its reply says whether it did, since it may have got another role meanwhile
 abbrev pub roll_to_job : ℕ → List Record → ℕ → Job Rolled
-roll_to_job v book to = Call v (call.RollTo to (image_at book to) (cas_of_last book)) (λ reply. Ended (rolled.To to))
+roll_to_job v book to = Call v (call.RollTo to (image_at book to) (cas_of_last book)) (λ reply. Ended (rolled_by reply))
 
 -- once the rollback stands, a batch on its way is forgotten, and the vBucket goes back
 abbrev pub rolled_job : ℕ → List Record → ℕ → Fate → Job Rolled
@@ -154,6 +165,7 @@ role_of_call (call.OpenStream id ask sync) = role.Dead
 role_of_call (call.Place id) = role.Dead
 role_of_call (call.Take id) = role.Dead
 role_of_call (call.CloseStream id) = role.Dead
+role_of_call (call.DropCursor id) = role.Dead
 role_of_call (call.Chain chain) = role.Dead
 role_of_call (call.Ack member seq) = role.Dead
 role_of_call (call.Tick clock) = role.Dead
@@ -164,6 +176,7 @@ role_of_call (call.Marker start end) = role.Dead
 role_of_call (call.Receive change) = role.Dead
 role_of_call (call.RollTo at image cas) = role.Dead
 role_of_call call.Seal = role.Dead
+role_of_call call.Trim = role.Dead
 role_of_call call.FlushTake = role.Dead
 role_of_call (call.FlushDone seq) = role.Dead
 role_of_call call.Stat = role.Dead

@@ -8,7 +8,6 @@ use Rattle.vb_calls.specs.declared.span.Span.{Span}
 use Rattle.vb_calls.specs.State.{Plain, quiet_reply}
 use Rattle.vb_calls.specs.Spans.{all_spans, live_in, span_position}
 use Rattle.vb_calls.specs.Settling.{and_settled}
-use Rattle.vb_calls.specs.Streams.{is_in_memory}
 
 -- the span that the next change to be written down stands in: the first that goes on above what was taken
 abbrev pub unflushed_span : Plain → Option Span
@@ -36,11 +35,11 @@ flush_row vb = flush_from (unflushed_span vb) vb
 abbrev pub flushed_row : Plain → ℕ → Plain × VbReply
 flushed_row vb seq = and_settled (record vb { saved = max vb.saved seq }, quiet_reply (answer.Num (max vb.saved seq)))
 
--- numbers of a vBucket: its spans, their live changes, its cursors (the flusher's, and one for each stream that is fed from memory), what is saved and its last seqno
+-- numbers of a vBucket: its spans, their live changes, its cursors (the flusher's, and those of the streams that have one), what is saved and its last seqno
 abbrev pub stat_row : Plain → VbReply
 stat_row vb = quiet_reply (answer.Stat
     (length (all_spans vb.spans))
     (length (flat_map (λ w. live_in w vb.held) (all_spans vb.spans)))
-    (1 + length (filter (is_in_memory vb.floor) vb.streams))
+    (1 + length (filter (λ s. s.cursor) vb.streams))
     vb.saved
     vb.position.at)

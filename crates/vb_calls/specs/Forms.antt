@@ -6,7 +6,7 @@ use Rattle.vb_types.specs.declared.journal.Record.TheVariants.{Rows}
 use Rattle.vb_journal.specs.Payloads.{is_writable}
 use Rattle.branch_model.specs.Logs.{log_limit}
 use Rattle.vb_calls.specs.declared.calls.VbCall.{VbCall}
-use Rattle.vb_calls.specs.declared.calls.VbCall.TheVariants.{Get, Store, Durable, Chain, Ack, Tick, Due, OpenStream, Place, Take, CloseStream, Ask, Adopt, Marker, Receive, RollTo, Promote, Follow, Dead, Pend, Own, Yield, Seal, FlushTake, FlushDone, Stat, Log, Show}
+use Rattle.vb_calls.specs.declared.calls.VbCall.TheVariants.{Get, Store, Durable, Chain, Ack, Tick, Due, OpenStream, Place, Take, CloseStream, DropCursor, Ask, Adopt, Marker, Receive, RollTo, Promote, Follow, Dead, Pend, Own, Yield, Seal, Trim, FlushTake, FlushDone, Stat, Log, Show}
 use Rattle.vb_calls.specs.declared.calls.VbAnswer.{VbAnswer}
 use Rattle.vb_calls.specs.declared.calls.VbAnswer.TheVariants as answer
 
@@ -30,7 +30,7 @@ HasForm (Ack member seq) answer.Done = Unit {0}
 HasForm (Ack member seq) (answer.Status st) = Unit {0}
 HasForm (Tick clock) answer.Done = Unit {0}
 HasForm (Tick clock) (answer.Status st) = Unit {0}
-HasForm Due (answer.Num seq) = Unit {0}
+HasForm Due (answer.Dues seq saved) = Unit {0}
 HasForm Due (answer.Status st) = Unit {0}
 HasForm (OpenStream id ask sync) (answer.Asked said log high) = MayAnswer id said × (length log ≤ log_limit)
 HasForm (Place id) (answer.Placed place) = Unit {0}
@@ -39,6 +39,7 @@ HasForm (Take id) (answer.Taken snapshot) = Unit {0}
 HasForm (Take id) answer.Nothing = Unit {0}
 HasForm (Take id) answer.Absent = Unit {0}
 HasForm (CloseStream id) (answer.Flag closed) = Unit {0}
+HasForm (DropCursor id) (answer.Flag had) = Unit {0}
 HasForm Ask (answer.Named ask) = Unit {0}
 HasForm Ask (answer.Status st) = Unit {0}
 HasForm (Adopt log) answer.Done = Unit {0}
@@ -63,6 +64,7 @@ HasForm (Yield id) answer.Done = Unit {0}
 HasForm (Yield id) (answer.Status st) = Unit {0}
 HasForm (Yield id) answer.Absent = Unit {0}
 HasForm Seal (answer.Flag sealed) = Unit {0}
+HasForm Trim (answer.Num removed) = Unit {0}
 HasForm FlushTake (answer.Rows batch) = is_writable (Rows batch) ≡ true
 HasForm FlushTake answer.Nothing = Unit {0}
 HasForm (FlushDone receipt) (answer.Num saved) = Unit {0}
@@ -74,6 +76,8 @@ HasForm call answer = ⊥
 -- this call may take memory, so that it fails where there is none
 abbrev pub TakesMemory : VbCall → Type 0
 TakesMemory (CloseStream id) = ⊥
+TakesMemory (DropCursor id) = ⊥
+TakesMemory Trim = ⊥
 TakesMemory Ask = ⊥
 TakesMemory Due = ⊥
 TakesMemory Stat = ⊥

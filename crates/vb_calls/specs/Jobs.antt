@@ -61,6 +61,18 @@ BeganJob step asks (Call v call next) old kept new left =
 BeganJob step asks (Request v ask next) old kept new left =
     ((new ≡ old) × IsUnasked asks v kept left) ⊎ ((got : Got ask) × (mid : _) × asks kept v ask got mid × BeganJob step asks (next got) old mid new left)
 
+-- no call of a vBucket
+abbrev pub no_step : Unit {0} → ℕ → VbCall → Option VbReply → Unit {0} → Type 0
+no_step old v call reply new = ⊥
+
+-- a job ran that asks journals alone, and calls no vBucket
+abbrev pub RanRequests : {J A : Type 0} → (J → ℕ → (ask : Ask) → Got ask → J → Type 0) → Job A → J → A → J → Type 0
+RanRequests asks job kept answer left = RanJob no_step asks job tt kept answer tt left
+
+-- it made a front part of its requests
+abbrev pub BeganRequests : {J A : Type 0} → (J → ℕ → (ask : Ask) → Got ask → J → Type 0) → Job A → J → J → Type 0
+BeganRequests asks job kept left = BeganJob no_step asks job tt kept tt left
+
 -- What is known of a request to journals that are alone and whose disks fail as their arms say and not otherwise: for all journals that they stand for, the answer is the plain one, and they stand for the journals after it.
 abbrev pub alone_asks : {J : Type 0} → (J → Shelves → Type 0) → J → ℕ → (ask : Ask) → Got ask → J → Type 0
 alone_asks Stands old v ask got new =

@@ -2,6 +2,7 @@ pub mod Spans
 pub mod State
 pub mod Writes
 pub mod Streams
+pub mod Trims
 pub mod Flushing
 pub mod Following
 pub mod Settling
@@ -16,3 +17,5 @@ pub mod Jobs
 pub mod Flushes
 pub mod AllSteps
 pub mod Numbers
+pub mod Faults
+pub mod Tellings

@@ -19,7 +19,7 @@ use Rattle.vb_calls.specs.declared.journals.Rolled.TheVariants as rolled
 use Rattle.vb_calls.specs.declared.journals.Wrote.{Wrote}
 use Rattle.vb_calls.specs.declared.journals.Wrote.TheVariants as wrote
 use Rattle.vb_calls.specs.AllSteps.{batch_of_one, with_one}
-use Rattle.vb_calls.specs.Flushes.{flush_job, role_job, roll_job}
+use Rattle.vb_calls.specs.Flushes.{flush_job, role_job, roll_job, roll_to_job}
 use Rattle.vb_calls.specs.Jobs.{Job, after_job}
 use Rattle.vb_calls.specs.Shelves.{Out, Shelf, Shelves, Written, open_shelf, shelves_step, Append, Look, Read, Shut, Idle, WasClosed}
 use Rattle.vb_calls.specs.Spans.{no_spans}
@@ -102,7 +102,7 @@ back_at_2 = record followed {
 abbrev pub back_at_0 : Plain
 back_at_0 = record back_at_2 { base = nothing; position = record { ss = 0; se = 0; at = 0 }; floor = 0; saved = 0; flushed = 0 }
 
--- The batch that ends at 4 ends inside its snapshot. So a rollback that names 3, or 2, goes to 2, with the image there and the CAS of the last batch, and one that names 1 goes to 0; the record of it stands in front, and a batch on its way is forgotten. Where it cannot be written down, or the vBucket does not follow, the vBucket stays.
+-- The batch that ends at 4 ends inside its snapshot. So a rollback that names 3, or 2, goes to 2, with the image there and the CAS of the last batch, and one that names 1 goes to 0; the record of it stands in front, and a batch on its way is forgotten. Where it cannot be written down, or the vBucket does not follow, also one that does no more once that stands, the vBucket stays.
 pub record RollsInNumbers : Type 0 where
   pub back : Leaves (roll_job 3 3) followed (open_shelf two_batches) (rolled.To 2) back_at_2 (open_shelf (noted.Roll 2 ∷ two_batches))
   pub exactly : Leaves (roll_job 3 2) followed (open_shelf two_batches) (rolled.To 2) back_at_2 (open_shelf (noted.Roll 2 ∷ two_batches))
@@ -111,6 +111,7 @@ pub record RollsInNumbers : Type 0 where
   pub forgets : Leaves (roll_job 3 3) followed (record (open_shelf two_batches) { flush = Out batch_of_one }) (rolled.To 2) back_at_2 (open_shelf (noted.Roll 2 ∷ two_batches))
   pub closed : Refuses (roll_job 3 3) followed (record (open_shelf two_batches) { is_closed = true }) rolled.Closed
   pub failed : Leaves (roll_job 3 3) followed (record (open_shelf two_batches) { fuse = Fail 4 }) rolled.DiskFailed followed (record (open_shelf two_batches) { is_closed = true; late = Some (noted.Roll 2) })
+  pub lost : Refuses (roll_to_job 3 two_batches 2) (record followed { role = role.Active }) (open_shelf two_batches) (rolled.Refused status.NotMyVbucket)
   pub foreign : Refuses (roll_job 3 3) (record followed { role = role.Active }) (open_shelf two_batches) (rolled.Refused status.NotMyVbucket)
 
 -- a role of this vBucket was written down so, where that was asked for, and the journal is this one then

@@ -1,6 +1,6 @@
 -- the plain vBucket: what each call does
 use Rattle.vb_calls.specs.declared.calls.VbCall.{VbCall}
-use Rattle.vb_calls.specs.declared.calls.VbCall.TheVariants.{Get, Store, Durable, Chain, Ack, Tick, Due, OpenStream, Place, Take, CloseStream, Ask, Adopt, Marker, Receive, RollTo, Promote, Follow, Dead, Pend, Own, Yield, Seal, FlushTake, FlushDone, Stat, Log, Show}
+use Rattle.vb_calls.specs.declared.calls.VbCall.TheVariants.{Get, Store, Durable, Chain, Ack, Tick, Due, OpenStream, Place, Take, CloseStream, DropCursor, Ask, Adopt, Marker, Receive, RollTo, Promote, Follow, Dead, Pend, Own, Yield, Seal, Trim, FlushTake, FlushDone, Stat, Log, Show}
 use Rattle.vb_calls.specs.declared.calls.VbReply.{VbReply}
 use Rattle.vb_calls.specs.State.{get_row, log_row, show_row}
 use Rattle.vb_calls.specs.Writes.{store_row}
@@ -9,6 +9,7 @@ use Rattle.vb_types.specs.declared.role.Role.TheVariants as role
 use Rattle.vb_calls.specs.Streams.{open_row, place_row, take_row, close_row}
 use Rattle.vb_calls.specs.Roles.{promote_row, turn_row, pend_row, own_row, yield_row, seal_row}
 use Rattle.vb_calls.specs.Flushing.{flush_row, flushed_row, stat_row}
+use Rattle.vb_calls.specs.Trims.{drop_row, trim_row}
 use Rattle.vb_calls.specs.Following.{ask_row, adopt_row, marker_row, receive_row, roll_row}
 pub use Rattle.vb_calls.specs.State.{Plain, new_vb}
 
@@ -22,9 +23,10 @@ plain_step plain (Ack member seq) = ack_row plain member seq
 plain_step plain (Tick clock) = tick_row plain clock
 plain_step plain Due = (plain, due_row plain)
 plain_step plain (OpenStream id ask sync) = open_row plain id ask sync
-plain_step plain (Place id) = (plain, place_row plain id)
+plain_step plain (Place id) = place_row plain id
 plain_step plain (Take id) = take_row plain id
 plain_step plain (CloseStream id) = close_row plain id
+plain_step plain (DropCursor id) = drop_row plain id
 plain_step plain Ask = (plain, ask_row plain)
 plain_step plain (Adopt log) = adopt_row plain log
 plain_step plain (Marker start end) = marker_row plain start end
@@ -37,6 +39,7 @@ plain_step plain Pend = pend_row plain
 plain_step plain Own = own_row plain
 plain_step plain (Yield id) = yield_row plain id
 plain_step plain Seal = seal_row plain
+plain_step plain Trim = trim_row plain
 plain_step plain FlushTake = flush_row plain
 plain_step plain (FlushDone receipt) = flushed_row plain receipt
 plain_step plain Stat = (plain, stat_row plain)

@@ -1,11 +1,13 @@
 -- the journals of a node, and what is asked of one
-use Rattle.std.specs.Prelude.{ℕ, ◌==◌, Bool, true, false, if◌then◌else◌, List, [], ◌∷◌, Option, Some, None}
+use Rattle.std.specs.Prelude.{ℕ, ◌==◌, Bool, true, false, if◌then◌else◌, List, [], ◌∷◌, reverse, Option, Some, None, Result, Ok, Err}
 use Rattle.branch_model.specs.Journals.{found}
 use Rattle.vb_disk.specs.declared.fuse.Fuse.{Fuse}
 use Rattle.vb_disk.specs.declared.fuse.Fuse.TheVariants.{Off}
 use Rattle.vb_disk.specs.declared.made.Outcome.{Outcome}
 use Rattle.vb_disk.specs.declared.made.Outcome.TheVariants.{New}
 use Rattle.vb_journal.specs.UnderArms.{all_pass, burnt_noting, leaves_open, stands}
+use Rattle.vb_journal.specs.declared.fault.AppendFault.{AppendFault}
+use Rattle.vb_journal.specs.declared.fault.AppendFault.TheVariants as fault
 use Rattle.vb_types.specs.declared.journal.Batch.{Batch}
 use Rattle.vb_types.specs.declared.journal.Record.{Record}
 
@@ -27,6 +29,13 @@ pub data Reading : Type 0 where
   Shut : Reading
   Unread : Reading
   Broken : (place : ℕ) → Reading
+
+-- the same of records in the order in which they were appended, or of the fault
+abbrev pub reading_by : Result (List Record) AppendFault → Reading
+reading_by (Ok records) = Book (reverse records)
+reading_by (Err fault.Closed) = Shut
+reading_by (Err fault.DiskFailed) = Unread
+reading_by (Err (fault.Damaged place)) = Broken place
 
 -- what is asked of a journal: an append; its records; the batch on its way; that this is the batch on its way
 pub data Ask : Type 0 where

@@ -10,6 +10,7 @@ use Rattle.vb_types.specs.declared.status.Status.{Status}
 use Rattle.vb_types.specs.declared.status.Status.TheVariants as status
 use Rattle.vb_types.specs.declared.stream.StreamAsk.{StreamAsk}
 use Rattle.vb_types.specs.declared.stream.Snapshot.{Snapshot}
+use Rattle.vb_types.specs.declared.stream.Place.{Place}
 use Rattle.vb_types.specs.declared.stream.Place.TheVariants.{Memory, WaitSaved}
 use Rattle.vb_types.specs.declared.stream.Verdict.{Verdict}
 use Rattle.vb_types.specs.declared.stream.Verdict.TheVariants.{Continue, Roll}
@@ -45,9 +46,17 @@ first_reason None other = other
 abbrev pub open_refusal : Plain → ℕ → StreamAsk → Option Status
 open_refusal vb id ask = if is_active vb.role then first_reason (id_refusal id (stream_at id vb.streams)) (if is_ranged ask then None else Some status.Erange) else Some status.NotMyVbucket
 
--- a stream that starts at its request's start
-abbrev pub new_stream : ℕ → StreamAsk → Bool → Stream
-new_stream id ask sync = record { id = id; ask = ask; sync = sync; place = ask.start; taken = false }
+-- the least place that is served from memory
+abbrev pub memory_from : Plain → ℕ
+memory_from vb = vb.floor
+
+-- all changes above this place are in memory
+abbrev pub is_in_memory : Plain → ℕ → Bool
+is_in_memory vb place = nat_le (memory_from vb) place
+
+-- a stream that starts at its request's start: it has a cursor there, if that is in memory
+abbrev pub new_stream : Plain → ℕ → StreamAsk → Bool → Stream
+new_stream vb id ask sync = record { id = id; ask = ask; sync = sync; place = ask.start; cursor = is_in_memory vb ask.start; taken = false }
 
 -- what is said to a request, with the failover log and the last seqno
 abbrev pub ask_reply : Plain → AskAnswer → VbReply
@@ -55,7 +64,7 @@ ask_reply vb said = quiet_reply (answer.Asked said vb.log vb.position.at)
 
 -- a request that the log lets continue opens a stream; one that has to roll back changes nothing
 abbrev pub judged_open : Verdict → Plain → ℕ → StreamAsk → Bool → Plain × VbReply
-judged_open Continue vb id ask sync = (record vb { streams = vb.streams ++ new_stream id ask sync ∷ [] }, ask_reply vb ask_answer.Go)
+judged_open Continue vb id ask sync = (record vb { streams = vb.streams ++ new_stream vb id ask sync ∷ [] }, ask_reply vb ask_answer.Go)
 judged_open (Roll to) vb id ask sync = (vb, ask_reply vb (ask_answer.Roll to))
 
 -- a request that is refused changes nothing
@@ -75,18 +84,36 @@ without_stream id streams = filter (λ s. not (s.id == id)) streams
 abbrev pub close_row : Plain → ℕ → Plain × VbReply
 close_row vb id = (record vb { streams = without_stream id vb.streams }, quiet_reply (answer.Flag (is_some (stream_at id vb.streams))))
 
--- all changes that a stream was not given yet are in memory: it has a cursor
-abbrev pub is_in_memory : ℕ → Stream → Bool
-is_in_memory floor s = nat_le floor s.place
+-- the stream of this number has a cursor at its place from now on, or has none; it stays where it is
+abbrev pub with_cursor_as : Bool → ℕ → Stream → Stream
+with_cursor_as has id s = if s.id == id then record { id = s.id; ask = s.ask; sync = s.sync; place = s.place; cursor = has; taken = s.taken } else s
+
+-- it has one
+abbrev pub given_cursor : ℕ → Stream → Stream
+given_cursor id = with_cursor_as true id
+
+-- it has none
+abbrev pub without_cursor : ℕ → Stream → Stream
+without_cursor id = with_cursor_as false id
+
+-- where a stream's changes come from
+abbrev pub place_reply : Place → VbReply
+place_reply from = quiet_reply (answer.Placed from)
+
+-- by whether a stream has a cursor, and whether it stands in memory: its changes come from there where it has one or is given one, and else it waits
+abbrev pub placed_by : Bool → Bool → Stream → Plain → Plain × VbReply
+placed_by true there s vb = (vb, place_reply Memory)
+placed_by false true s vb = (record vb { streams = map (given_cursor s.id) vb.streams }, place_reply Memory)
+placed_by false false s vb = (vb, place_reply WaitSaved)
 
 -- where the changes of a stream come from, if it is open
-abbrev pub place_reply : ℕ → Option Stream → VbReply
-place_reply floor None = quiet_reply answer.Absent
-place_reply floor (Some s) = quiet_reply (answer.Placed (if is_in_memory floor s then Memory else WaitSaved))
+abbrev pub place_from : Option Stream → Plain → Plain × VbReply
+place_from None vb = (vb, quiet_reply answer.Absent)
+place_from (Some s) vb = placed_by s.cursor (is_in_memory vb s.place) s vb
 
--- from memory where all are there; a stream that is further back waits
-abbrev pub place_row : Plain → ℕ → VbReply
-place_row vb id = place_reply vb.floor (stream_at id vb.streams)
+-- where the next changes of the stream of this number come from
+abbrev pub place_row : Plain → ℕ → Plain × VbReply
+place_row vb id = place_from (stream_at id vb.streams) vb
 
 -- a sync stream sees all changes, any other the sets, removals and commits
 abbrev pub is_seen : Bool → Act → Bool
@@ -145,9 +172,9 @@ end_span s ws h = find (λ w. may_end s ws h w.last) ws
 abbrev pub snapshot_of : Stream → List Change → Snapshot
 snapshot_of s items = record { start = start_of s; end = last_seq s.place items; disk = false; items = items }
 
--- the stream of this number after a snapshot up to `end`
+-- the stream of this number after a snapshot up to `end`, to which its cursor goes with it
 abbrev pub moved_on : ℕ → ℕ → Stream → Stream
-moved_on id end s = if s.id == id then record { id = s.id; ask = s.ask; sync = s.sync; place = end; taken = true } else s
+moved_on id end s = if s.id == id then record { id = s.id; ask = s.ask; sync = s.sync; place = end; cursor = s.cursor; taken = true } else s
 
 -- a take up to the end of a span, if there is one
 abbrev pub take_to : Option Span → Stream → Plain → Plain × VbReply
@@ -157,7 +184,7 @@ take_to (Some w) s vb = (record vb { streams = map (moved_on s.id w.last) vb.str
 -- a take by a stream, if it is open; one that has no cursor is given nothing
 abbrev pub take_from : Option Stream → Plain → Plain × VbReply
 take_from None vb = (vb, quiet_reply answer.Absent)
-take_from (Some s) vb = take_to (if is_in_memory vb.floor s then end_span s (all_spans vb.spans) vb.held else None) s vb
+take_from (Some s) vb = take_to (if s.cursor then end_span s (all_spans vb.spans) vb.held else None) s vb
 
 -- a stream's next snapshot
 abbrev pub take_row : Plain → ℕ → Plain × VbReply

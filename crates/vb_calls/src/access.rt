@@ -12,6 +12,10 @@ pub trait VbAccess {
     /// Whether there is a vBucket of a number.
     ghost has: { Self → ℕ → Bool };
 
+    /// Asks that of the access itself, and calls no vBucket.
+    fn is_there(&self, v: u16) -> bool
+        ensures { result ≡ has self.now v };
+
     /// What is known of one call: the access before, the vBucket's number, the call, its reply
     /// where there is such a vBucket, and the access after.
     ghost step: { Self → ℕ → TheCall → Option TheReply → Self → Type 0 };

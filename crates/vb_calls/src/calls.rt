@@ -35,7 +35,8 @@ pub enum VbCall {
         ask: StreamAsk,
         sync: bool,
     },
-    /// Where an open stream's next changes come from.
+    /// Where an open stream's next changes come from. One that has no cursor is given one where they
+    /// are in memory.
     Place {
         id: u64,
     },
@@ -45,6 +46,11 @@ pub enum VbCall {
     },
     /// That an open stream is no longer fed. It takes no memory.
     CloseStream {
+        id: u64,
+    },
+    /// That an open stream has no cursor any more, if it has one; it stays at its place. It takes no
+    /// memory.
+    DropCursor {
         id: u64,
     },
     /// The nodes that are to have the durable writes of the vBucket.
@@ -105,6 +111,9 @@ pub enum VbCall {
     },
     /// That no change enters the open span any more.
     Seal,
+    /// That the sealed spans are given up that are written down, and that no cursor needs. It takes no
+    /// memory.
+    Trim,
     /// The next changes that are to be written down: the rest of one span.
     FlushTake,
     /// That changes are written down, as the receipt says.
@@ -132,8 +141,14 @@ pub enum VbAnswer {
     Done,
     /// The call was made, and whether it did anything.
     Flag(bool),
-    /// The seqno that the vBucket holds now.
+    /// The seqno that the vBucket holds now, or how many spans it gave up.
     Num(u64),
+    /// The seqno that the vBucket may acknowledge, 0 for none, and the one up to which it has written all
+    /// down.
+    Dues {
+        seq: u64,
+        saved: u64,
+    },
     /// The branch that the vBucket is on from now on: its parent, the seqno at which it leaves it,
     /// and the seqno up to which it has changes.
     Branch {

@@ -1,11 +1,13 @@
 //! What the layers above ask of the journals of vBuckets.
 ghost use Rattle.std.specs.Prelude.{◌≡◌, ◌⊎◌, ℕ, true, IfOk, OnErr};
-ghost use Rattle.{vb_calls.specs.Flushes.{flush_job, roll_job, role_job, wrote_of, IsRoleCall}, vb_calls.specs.Jobs.{RanJob, BeganJob, IsUnasked}, vb_calls.specs.Shelves.{Ask, Fate, Got, Append}};
+ghost use Rattle.{vb_calls.specs.Flushes.{flush_job, roll_job, role_job, wrote_of, IsRoleCall}, vb_calls.specs.Jobs.{RanJob, BeganJob, IsUnasked}, vb_calls.specs.Shelves.{Ask, Fate, Got, Append, Read, reading_by}};
+ghost use Rattle.vb_calls.specs.Faults.{AreCounted};
 ghost use Rattle.{vb_journal.specs.Payloads.{is_writable}};
 
 use crate::access::VbAccess;
 use crate::calls::{VbCall, VbReply};
 use std::alloc::AllocError;
+use vb_journal::{AppendFault, Records};
 use vb_types::{FlushPart, Record, Status};
 
 /// What became of a record that was to be appended.
@@ -68,6 +70,23 @@ pub trait Journals {
     /// What is known of one request: the journals before, the number, the request, its answer, and
     /// the journals after.
     ghost asks: { Self → ℕ → (ask : Ask) → Got ask → Self → Type 0 };
+
+    /// How often calls of the disk of the journal of a number have failed.
+    ghost failures: { Self → ℕ → ℕ };
+
+    /// No count falls in a request, and it is answered that the disk failed only where that of its
+    /// journal rose.
+    ghost counted: { AreCounted asks failures };
+
+    /// How often calls of a journal's disk have failed. The count stands still at `u64::MAX`.
+    fn faults(&self, v: u16) -> u64
+        ensures { result ≡ failures self.now v };
+
+    /// The records of a journal, in the order in which they were appended, read anew; or that an
+    /// earlier append to it failed, that its disk failed in this call, or from where on it is damaged.
+    fn records(&mut self, v: u16) -> Result<Result<Records, AppendFault>, AllocError>
+        ensures ok { IfOk result (λ came. asks self.old v Read (reading_by came) self.new) }
+        ensures err { OnErr result (IsUnasked asks v self.old self.new) };
 
     /// Appends a record. `Closed` exactly where an earlier append to this journal failed, and
     /// `DiskFailed` only where its disk failed in this call.

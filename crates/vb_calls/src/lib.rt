@@ -4,6 +4,7 @@
 
 mod access;
 mod calls;
+mod fault_laws;
 mod flush_laws;
 mod journals;
 mod laws;
@@ -12,11 +13,14 @@ mod stream;
 
 pub use access::VbAccess;
 pub use calls::{Resolution, Resolved, VbAnswer, VbCall, VbReply};
+pub use fault_laws::{counts_never_fall, disks_fail_where_counts_rose};
 pub use flush_laws::{
     all_steps_are_made, all_steps_in_numbers, roles_in_numbers, rollbacks_in_numbers,
     steps_in_numbers, vbuckets_stand_apart,
 };
 pub use journals::{Flushed, Journals, Rolled, Wrote};
-pub use laws::limits_in_numbers;
+pub use laws::{
+    answers_have_forms, limits_in_numbers, readings_in_numbers, some_calls_take_no_memory,
+};
 pub use span::{BASE_WEIGHT, MAX_ITEMS, MAX_WEIGHT, Origin, Span};
 pub use stream::Stream;

@@ -10,6 +10,8 @@ pub struct Stream {
     pub sync: bool,
     /// The seqno up to which its changes were taken.
     pub place: u64,
+    /// It has a cursor at its place: all changes above are in memory, and stay there till it took them.
+    pub cursor: bool,
     /// Its first snapshot was taken.
     pub taken: bool,
 }

@@ -7,6 +7,8 @@ mod backfills;
 #[cfg(test)]
 mod durable;
 #[cfg(test)]
+mod journals;
+#[cfg(test)]
 mod keys;
 #[cfg(test)]
 mod tables;

@@ -1,8 +1,10 @@
 //! A vBucket at work.
 mod calls;
 mod durable;
+mod memory;
 mod refused;
 mod roles;
+mod saving;
 mod takeovers;
 
 use calls::{At, Do, Step, Talk, Told, first_other, first_other_of};

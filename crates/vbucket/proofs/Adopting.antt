@@ -1,5 +1,5 @@
 -- which failover logs a producer may answer
-use Rattle.std.proofs.Common.{◌≡◌, ℕ, ◌≤◌, true, List, [], ◌∷◌, length, refl, arith}
+use Rattle.std.proofs.Common.{◌≡◌, ℕ, true, List, [], ◌∷◌, length, refl, arith}
 use Rattle.std.specs.Prelude.{nat_le, not, ◌==◌, ◌&&◌}
 use Rattle.std.proofs.lemmas.Bool.Decides.{nat_tests}
 use Rattle.vb_types.specs.declared.role.LogEntry.{LogEntry}
@@ -7,16 +7,13 @@ use Rattle.vb_types.specs.declared.position.TheConstants.{MAX_SEQ}
 use Rattle.branch_model.specs.Logs.{log_limit, Lacks, Distinct, Falls}
 use Rattle.vb_calls.specs.Following.{log_lacks, log_differs, log_falls}
 use Rattle.vbucket.specs.Adopting.{AnswerableExactly}
-use Rattle.vbucket.proofs.Parts.{both, conj, most_of}
+use Rattle.vbucket.proofs.Parts.{both, conj, most_of, most_tested}
 
 differ_of : (a b : ℕ) → not (a == b) ≡ true → a ≡ b → ⊥
 differ_of a b e = grind (arith, nat_tests)
 
 differ_tested : (a b : ℕ) → (a ≡ b → ⊥) → not (a == b) ≡ true
 differ_tested a b n = grind (arith, nat_tests)
-
-most_tested : (a b : ℕ) → a ≤ b → nat_le a b ≡ true
-most_tested a b l = grind (arith, nat_tests)
 
 pub lacks_of : (log : List LogEntry) (u : ℕ) → log_lacks log u ≡ true → Lacks log u
 lacks_of [] u e = tt

@@ -16,8 +16,9 @@ use Rattle.vb_calls.specs.declared.stream.Stream.{Stream}
 use Rattle.vb_types.specs.declared.role.Role.{Role}
 use Rattle.vb_types.specs.declared.role.Role.TheVariants as role
 use Rattle.vb_calls.specs.State.{Plain, is_active}
-use Rattle.vb_calls.specs.Streams.{first_reason, id_refusal, is_ranged, judged_open, open_outcome, open_refusal, stream_at}
+use Rattle.vb_calls.specs.Streams.{first_reason, id_refusal, is_in_memory, is_ranged, memory_from, judged_open, open_outcome, open_refusal, stream_at}
 use Rattle.vbucket.specs.Laws.{is_denial}
+use Rattle.vbucket.proofs.Parts.{most_of, most_tested}
 use Rattle.vbucket.specs.Asks.{AnswersHaveLog, IsOpen, IsTaken, IsRanged, IsHeard, OpensAs, OpensExactly}
 
 judged : (v : Verdict) (vb : Plain) (id : ℕ) (ask : StreamAsk) (sync : Bool) → (said : AskAnswer) × ((judged_open v vb id ask sync).1.answer ≡ answer.Asked said vb.log vb.position.at)
@@ -124,7 +125,7 @@ module _ (vb : Plain) (id : ℕ) (ask : StreamAsk) where
       outside = (λ q. cc, λ t. absurd (t.2 h.2));
       back = λ to. (λ q. cc, λ t. let z : Continue ≡ Roll to = sym e ∙ t.1 in cc);
       go = (λ q. (h, e), λ t. refl);
-      opens = λ q. refl;
+      opens = λ q. (is_in_memory vb ask.start, refl, (λ t. most_of (memory_from vb) ask.start t, λ l. most_tested (memory_from vb) ask.start l));
     }
     heard (Roll n) e h = record {
       foreign = (λ q. cc, λ n. absurd (n h.0));

@@ -17,10 +17,10 @@ use Rattle.cursor_set.specs.Cursors.{Places, place_of}
 use Rattle.ckpt_list.specs.Lists.{Ckpts}
 use Rattle.vbucket.specs.Kept.{SameChanges}
 use Rattle.vbucket.specs.Promoting.{unfed, zero_at}
-use Rattle.vbucket.specs.Steady.{cursor_for, cursor_in, stream_place, AreApart, CursorsAreStreams, MayFeed}
+use Rattle.vbucket.specs.Steady.{cursor_of, stream_place, AreApart, CursorsAreStreams}
+use Rattle.vbucket.specs.Laws.{AreFed, MayFeed}
 use Rattle.vbucket.specs.Turning.{only_stream, turned_idle, turned_to}
-use Rattle.vbucket.proofs.Feeding.{differ, fed_remove, flip, found_none, tie, tied, untied}
-use Rattle.vbucket.proofs.Steadying.{named}
+use Rattle.vbucket.proofs.Feeding.{differ, fed_remove, flip, named, never, tie, tied, untied}
 
 -- one number among streams
 
@@ -71,8 +71,26 @@ apart_only id (x ∷ xs) a = by (x.id == id) refl (apart_only id xs a.2)
     by true f ih = subst (λ ss. AreApart (x ∷ ss)) (sym (none_only id xs (subst (λ n. stream_at n xs ≡ None) (same x.id id f) a.1))) (a.0, refl, tt)
     by false f ih = ih
 
+-- and who has a number among them
+pub only_at : (id q : ℕ) (streams : List Stream) → stream_at q (only_stream id streams) ≡ (if q == id then stream_at q streams else None)
+only_at id q [] = never (q == id)
+only_at id q (x ∷ xs) = pull (x.id == id) ∙ by (x.id == id) (x.id == q) (q == id) refl refl refl (only_at id q xs)
+  where
+    pull : (a : Bool) → stream_at q (cond a (x ∷ only_stream id xs) (only_stream id xs)) ≡ cond a (cond (x.id == q) (Some x) (stream_at q (only_stream id xs))) (stream_at q (only_stream id xs))
+    pull true = refl
+    pull false = refl
+
+    by : (a b c : Bool) → (x.id == id) ≡ a → (x.id == q) ≡ b → (q == id) ≡ c → stream_at q (only_stream id xs) ≡ (if c then stream_at q xs else None)
+        → cond a (cond b (Some x) (stream_at q (only_stream id xs))) (stream_at q (only_stream id xs)) ≡ (if c then cond b (Some x) (stream_at q xs) else None)
+    by true true true e f g ih = refl
+    by true true false e f g ih = tied x.id id q e f g
+    by true false c e f g ih = ih
+    by false true true e f g ih = untied x.id id q e f g
+    by false true false e f g ih = ih
+    by false false c e f g ih = ih
+
 -- in a role other than dead no stream is kept, and in that one at most one
-pub few_only : (r : Role) (kept : ℕ) (streams : List Stream) → AreApart streams → (kept ≢ 0 → r ≡ role.Dead) → MayFeed r (only_stream kept streams)
+few_only : (r : Role) (kept : ℕ) (streams : List Stream) → AreApart streams → (kept ≢ 0 → r ≡ role.Dead) → MayFeed r (only_stream kept streams)
 few_only r kept streams a dead = by (kept == 0) refl
   where
     idle : (x : Role) → MayFeed x []
@@ -84,6 +102,13 @@ few_only r kept streams a dead = by (kept == 0) refl
     by : (b : Bool) → (kept == 0) ≡ b → MayFeed r (only_stream kept streams)
     by true e = subst (λ ss. MayFeed r ss) (sym (ap (λ n. only_stream n streams) (same kept 0 e) ∙ only_zero streams a)) (idle r)
     by false e = subst (λ x. MayFeed x (only_stream kept streams)) (sym (dead (other kept 0 e))) (only_few kept streams a)
+
+pub feeds_only : (r new : Role) (floor kept : ℕ) (streams : List Stream) → AreApart streams → (kept ≢ 0 → new ≡ role.Dead) → AreFed r floor streams → AreFed new floor (only_stream kept streams)
+feeds_only r new floor kept streams a dead are = record { few = few_only new kept streams a dead; cursors = λ q t is. by q t (q == kept) (sym (only_at kept q streams) ∙ is) }
+  where
+    by : (q : ℕ) (t : Stream) (b : Bool) → (if b then stream_at q streams else None) ≡ Some t → t.cursor ≡ true → floor ≤ t.place
+    by q t true at has = are.cursors q t at has
+    by q t false at has = cc
 
 -- the numbers of all streams but one
 pub ids_without : (id : ℕ) (streams : List Stream) → filter (λ n. not (n == id)) (stream_ids streams) ≡ stream_ids (without_stream id streams)
@@ -104,33 +129,12 @@ turned_one vb kept s a e =
     (λ i. (in_role_with vb role.Dead (only_one kept vb.streams s a e i), record (ending_reply vb Done) { ended = stream_ids (without_stream kept vb.streams) }))
     ∙ ap (λ n. (in_role_with vb role.Dead (s ∷ []), record (ending_reply vb Done) { ended = stream_ids (without_stream n vb.streams) })) (sym (named kept vb.streams s e))
 
-only_at : (floor id q : ℕ) (streams : List Stream) → cursor_in floor q (only_stream id streams) ≡ (if q == id then cursor_in floor q streams else None)
-only_at floor id q [] = none (q == id)
-  where
-    none : (c : Bool) → ◌≡◌ {A = Option ℕ} None (if c then None else None)
-    none true = refl
-    none false = refl
-only_at floor id q (x ∷ xs) = pull (x.id == id) ∙ by (x.id == id) (x.id == q) (q == id) refl refl refl (only_at floor id q xs)
-  where
-    pull : (a : Bool) → cursor_in floor q (cond a (x ∷ only_stream id xs) (only_stream id xs)) ≡ cond a (if x.id == q then cursor_for floor x else cursor_in floor q (only_stream id xs)) (cursor_in floor q (only_stream id xs))
-    pull true = refl
-    pull false = refl
-
-    by : (a b c : Bool) → (x.id == id) ≡ a → (x.id == q) ≡ b → (q == id) ≡ c → cursor_in floor q (only_stream id xs) ≡ (if c then cursor_in floor q xs else None)
-        → cond a (if b then cursor_for floor x else cursor_in floor q (only_stream id xs)) (cursor_in floor q (only_stream id xs)) ≡ (if c then (if b then cursor_for floor x else cursor_in floor q xs) else None)
-    by true true true e f g ih = refl
-    by true true false e f g ih = tied x.id id q e f g
-    by true false c e f g ih = ih
-    by false true true e f g ih = untied x.id id q e f g
-    by false true false e f g ih = ih
-    by false false c e f g ih = ih
-
 -- cursors that are dropped one by one, but for that of a number: of another stream that is not among the rest the cursor is gone, and the cursor of that number stands where it stood
 abbrev pub AreGone : Places → ℕ → Places → List Stream → Type 0
 AreGone first kept places rest = ((id : ℕ) → id ≢ kept → stream_at id rest ≡ None → stream_place places id ≡ None) × (stream_place places kept ≡ stream_place first kept)
 
-pub first_gone : (places : Places) (floor : ℕ) (streams : List Stream) (kept : ℕ) → CursorsAreStreams places floor streams → AreGone places kept places streams
-first_gone places floor streams kept are = (λ id ne none. sym (are.cursors id) ∙ found_none floor id streams none, refl)
+pub first_gone : (places : Places) (streams : List Stream) (kept : ℕ) → CursorsAreStreams places streams → AreGone places kept places streams
+first_gone places streams kept are = (λ id ne none. sym (are.cursors id) ∙ ap cursor_of none, refl)
 
 -- a stream that comes next is dropped, or is the one that stays
 pub gone_next : (first : Places) (kept : ℕ) (places : Places) (streams : List Stream) (i : ℕ) (d s : Stream) → i < length streams → get_or streams i d ≡ s → s.id ≢ kept → AreGone first kept places (drop i streams) → AreGone first kept (finite.remove places s.id) (drop (suc i) streams)
@@ -150,26 +154,22 @@ gone_past first kept places [] i d s l is at are = absurd (omega arith)
 gone_past first kept places (x ∷ xs) zero d s l is at are = (λ q nq none. are.0 q nq (ap (λ b. cond b (Some x) (stream_at q xs)) (apart x.id q (λ e. nq (sym e ∙ ap (λ (y : Stream). y.id) is ∙ at))) ∙ none), are.1)
 gone_past first kept places (x ∷ xs) (suc i) d s l is at are = gone_past first kept places xs i d s (omega arith) is at are
 
-pub gone_last : (first : Places) (floor : ℕ) (streams : List Stream) (kept : ℕ) (places : Places) → CursorsAreStreams first floor streams → AreGone first kept places [] → CursorsAreStreams places floor (only_stream kept streams)
-gone_last first floor streams kept places were gone = record {
-  cursors = λ q. only_at floor kept q streams ∙ by q (q == kept) refl;
+pub gone_last : (first : Places) (streams : List Stream) (kept : ℕ) (places : Places) → CursorsAreStreams first streams → AreGone first kept places [] → CursorsAreStreams places (only_stream kept streams)
+gone_last first streams kept places were gone = record {
+  cursors = λ q. ap cursor_of (only_at kept q streams) ∙ by q (q == kept) refl;
   apart = apart_only kept streams were.apart;
 }
   where
-    by : (q : ℕ) (c : Bool) → (q == kept) ≡ c → (if c then cursor_in floor q streams else None) ≡ stream_place places q
+    by : (q : ℕ) (c : Bool) → (q == kept) ≡ c → cursor_of (if c then stream_at q streams else None) ≡ stream_place places q
     by q true e = let k = same q kept e in were.cursors q ∙ ap (stream_place first) k ∙ sym (ap (stream_place places) k ∙ gone.1)
     by q false e = sym (gone.0 q (other q kept e) refl)
 
 -- where no stream is left, the cursor 0 is alone
-pub is_unfed : (l m : Ckpts) (floor : ℕ) → SameChanges l m → CursorsAreStreams m.places floor [] → m ≡ unfed l
-is_unfed l m floor e are = e.rest ∙ ap (λ (p : Places). record l { places = p }) (finite.same_map nat_cmp_total finite.nat_cmp-IsAntisymmetric m.places (zero_at (place_of l.places 0)) at)
+pub is_unfed : (l m : Ckpts) → SameChanges l m → CursorsAreStreams m.places [] → m ≡ unfed l
+is_unfed l m e are = e.rest ∙ ap (λ (p : Places). record l { places = p }) (finite.same_map nat_cmp_total finite.nat_cmp-IsAntisymmetric m.places (zero_at (place_of l.places 0)) at)
   where
     found : (o : Option ℕ) (q : ℕ) → place_of (zero_at o) q ≡ (if q == 0 then o else None)
     found None q = finite.get-empty nat_cmp q ∙ never (q == 0)
-      where
-        never : (c : Bool) → ◌≡◌ {A = Option ℕ} None (if c then None else None)
-        never true = refl
-        never false = refl
     found (Some n) q = finite.get-insert nat_cmp_total finite.empty 0 n q ∙ (λ i. cond (tie q 0 i) (Some n) (finite.get-empty nat_cmp q i)) ∙ by (q == 0)
       where
         by : (c : Bool) → cond c (Some n) None ≡ (if c then Some n else None)

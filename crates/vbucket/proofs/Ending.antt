@@ -15,12 +15,12 @@ use Rattle.vb_calls.specs.declared.span.Origin.{Origin}
 use Rattle.vb_calls.specs.declared.span.Origin.TheVariants.{Own, Received}
 use Rattle.vb_calls.specs.Plain.{Plain}
 use Rattle.vb_calls.specs.Spans.{all_spans, is_whole, starts_below}
-use Rattle.vb_calls.specs.Streams.{is_in_memory, stream_at, is_seen, is_plain_next, sent_as, items_to, has_any, may_end, end_span, need_of, snapshot_of, take_to, take_from}
+use Rattle.vb_calls.specs.Streams.{stream_at, is_seen, is_plain_next, sent_as, items_to, has_any, may_end, end_span, need_of, snapshot_of, take_to, take_from}
 use Rattle.vbucket.specs.Laws.{Sound, Follow}
 use Rattle.vbucket.specs.Takes.{EndsOne, CutsNone, MayEnd, EndsFirst, TakesAs, TakesExactly, IsSnapshot}
 use Rattle.vbucket.proofs.Asks.{is_open, not_open}
-use Rattle.vbucket.proofs.Parts.{from_zero, Among, both, conj, below_of, below_tested, most_of, found, ends_above}
-use Rattle.vbucket.proofs.Receiving.{either, never, most_tested, of_right}
+use Rattle.vbucket.proofs.Parts.{from_zero, Among, both, conj, below_of, below_tested, most_of, most_tested, found, ends_above}
+use Rattle.vbucket.proofs.Receiving.{either, never, of_right}
 use Rattle.vbucket.proofs.Taking.{item_of, item_there, snapshot_at}
 
 -- spans
@@ -135,7 +135,7 @@ module _ (vb : Plain) (s : Stream) (sound : Sound vb) (w : Span) (a : Among w (a
       (λ e. given (Slot.Pending k.0.key) k.0 k.1 k.2 k.3 ((bytes_eq-Decides k.0.key k.0.key).1 refl) (λ d t. ap (λ b. b || is_visible d.act) e))
       (λ v. given (Slot.Committed k.0.key) k.0 k.1 k.2 k.3 (and_from _ _ ((bytes_eq-Decides k.0.key k.0.key).1 refl) v) (λ d t. of_right s.sync (is_visible d.act) (and_parts _ _ t).1)) k.4
 
-module _ (vb : Plain) (s : Stream) (sound : Sound vb) (memory : vb.floor ≤ s.place) where
+module _ (vb : Plain) (s : Stream) (sound : Sound vb) (has : s.cursor ≡ true) where
   abbrev passes : Span → Bool
   passes w = may_end s (all_spans vb.spans) vb.held w.last
 
@@ -146,7 +146,7 @@ module _ (vb : Plain) (s : Stream) (sound : Sound vb) (memory : vb.floor ≤ s.p
       let n = both (nat_lt s.place w.last && is_whole w.last ws) (nat_le (need_of s) w.last) m.0 in
       let o = both (nat_lt s.place w.last) (is_whole w.last ws) n.0 in
       let l = below_of s.place w.last o.0 in
-      record { memory = memory; above = l; span = among_ends w ws a; whole = cuts_none w.last ws o.1; needed = needs_of s w.last (most_of (need_of s) w.last n.1); some = some_of vb s sound w a l m.1 }
+      record { cursor = has; above = l; span = among_ends w ws a; whole = cuts_none w.last ws o.1; needed = needs_of s w.last (most_of (need_of s) w.last n.1); some = some_of vb s sound w a l m.1 }
 
   of_ends_at : (w : Span) → Among w (all_spans vb.spans) → MayEnd vb s w.last → passes w ≡ true
   of_ends_at w a e =
@@ -172,16 +172,16 @@ module _ (vb : Plain) (s : Stream) (sound : Sound vb) (memory : vb.floor ≤ s.p
 same_stream : (o : Option Stream) (s t : Stream) → o ≡ Some s → o ≡ Some t → s ≡ t
 same_stream o s t e f = let k : Some s ≡ Some t = sym e ∙ f in cc
 
-to_as : (vb : Plain) (id : ℕ) (s : Stream) (o : Option Span) → Sound vb → vb.floor ≤ s.place → stream_at id vb.streams ≡ Some s → end_span s (all_spans vb.spans) vb.held ≡ o → TakesAs vb id (take_to o s vb)
-to_as vb id s None sound memory e q = record {
+to_as : (vb : Plain) (id : ℕ) (s : Stream) (o : Option Span) → Sound vb → s.cursor ≡ true → stream_at id vb.streams ≡ Some s → end_span s (all_spans vb.spans) vb.held ≡ o → TakesAs vb id (take_to o s vb)
+to_as vb id s None sound has e q = record {
   absent = (λ k. cc, λ f. absurd (f (is_open id vb.streams s e)));
-  nothing = (λ k. (s, e, ends_nowhere vb s sound memory q), λ k. refl);
+  nothing = (λ k. (s, e, ends_nowhere vb s sound has q), λ k. refl);
   taken = λ snapshot k. cc;
-  some = λ t n f may. absurd (ends_nowhere vb s sound memory q n (subst (λ x. MayEnd vb x n) (same_stream (stream_at id vb.streams) t s f e) may));
+  some = λ t n f may. absurd (ends_nowhere vb s sound has q n (subst (λ x. MayEnd vb x n) (same_stream (stream_at id vb.streams) t s f e) may));
 }
-to_as vb id s (Some w) sound memory e q =
-    let first = ends_first vb s sound memory w q in
-    let k = found (passes vb s sound memory) (all_spans vb.spans) w q in
+to_as vb id s (Some w) sound has e q =
+    let first = ends_first vb s sound has w q in
+    let k = found (passes vb s sound has) (all_spans vb.spans) w q in
     record {
       absent = (λ k. cc, λ f. absurd (f (is_open id vb.streams s e)));
       nothing = (λ k. cc, λ k. absurd (k.2 w.last (subst (λ x. MayEnd vb x w.last) (same_stream (stream_at id vb.streams) s k.0 e k.1) first.0)));
@@ -189,17 +189,17 @@ to_as vb id s (Some w) sound memory e q =
       some = λ t n f may. (snapshot_of s (items_to s (all_spans vb.spans) vb.held w.last), refl);
     }
 
--- a stream below the floor waits
-further_back : (vb : Plain) (id : ℕ) (s : Stream) → stream_at id vb.streams ≡ Some s → is_in_memory vb.floor s ≡ false → TakesAs vb id (take_to None s vb)
-further_back vb id s e m = record {
+-- a stream that has no cursor is given nothing
+uncursored : (vb : Plain) (id : ℕ) (s : Stream) → stream_at id vb.streams ≡ Some s → s.cursor ≡ false → TakesAs vb id (take_to None s vb)
+uncursored vb id s e m = record {
   absent = (λ k. cc, λ f. absurd (f (is_open id vb.streams s e)));
-  nothing = (λ k. (s, e, λ n may. nowhere may.memory), λ k. refl);
+  nothing = (λ k. (s, e, λ n may. nowhere may.cursor), λ k. refl);
   taken = λ snapshot k. cc;
-  some = λ t n f may. absurd (nowhere (subst (λ (x : Stream). vb.floor ≤ x.place) (same_stream (stream_at id vb.streams) t s f e) may.memory));
+  some = λ t n f may. absurd (nowhere (subst (λ (x : Stream). x.cursor ≡ true) (same_stream (stream_at id vb.streams) t s f e) may.cursor));
 }
   where
-    nowhere : vb.floor ≤ s.place → ⊥
-    nowhere l = never (is_in_memory vb.floor s) m (most_tested vb.floor s.place l)
+    nowhere : s.cursor ≡ true → ⊥
+    nowhere = never s.cursor m
 
 from_as : (vb : Plain) (id : ℕ) (o : Option Stream) → Sound vb → stream_at id vb.streams ≡ o → TakesAs vb id (take_from o vb)
 from_as vb id None sound e = record {
@@ -208,11 +208,11 @@ from_as vb id None sound e = record {
   taken = λ snapshot k. cc;
   some = λ s n f may. let z : None ≡ Some s = sym e ∙ f in cc;
 }
-from_as vb id (Some s) sound e = by (is_in_memory vb.floor s) refl
+from_as vb id (Some s) sound e = by s.cursor refl
   where
-    by : (b : Bool) → is_in_memory vb.floor s ≡ b → TakesAs vb id (take_to (if b then end_span s (all_spans vb.spans) vb.held else None) s vb)
-    by true m = to_as vb id s (end_span s (all_spans vb.spans) vb.held) sound (most_of vb.floor s.place m) e refl
-    by false m = further_back vb id s e m
+    by : (b : Bool) → s.cursor ≡ b → TakesAs vb id (take_to (if b then end_span s (all_spans vb.spans) vb.held else None) s vb)
+    by true m = to_as vb id s (end_span s (all_spans vb.spans) vb.held) sound m e refl
+    by false m = uncursored vb id s e m
 
 pub takes_exactly : TakesExactly
 takes_exactly vb id sound = from_as vb id (stream_at id vb.streams) sound refl

@@ -15,7 +15,7 @@ use Rattle.vb_calls.specs.Settling.{also_resolved, and_settled}
 use Rattle.vb_calls.specs.State.{Plain, quiet_reply}
 use Rattle.vbucket.specs.Laws.{Holds, HeldGrows}
 use Rattle.vbucket.specs.Settles.{Count, Resolves}
-use Rattle.vbucket.proofs.RowIs.{Appends, RowIs, StartIs, Expires, Prepares, Receives, Rolls, Settles, Streams, Tells, Turns, Writes, begins, loud_appends, restreams, row_is}
+use Rattle.vbucket.proofs.RowIs.{Appends, RowIs, StartIs, Expires, Prepares, Receives, Rolls, Settles, Streams, Tells, Trims, Turns, Writes, begins, loud_appends, restreams, row_is}
 use Rattle.vbucket.proofs.Settling.{expires, settles}
 
 abbrev Grows : Plain × VbReply → Plain → Type 0
@@ -56,13 +56,15 @@ then_grows made vb g =
 above : (at seq se : ℕ) → (nat_lt at seq && nat_le seq se) ≡ true → at < seq
 above at seq se e = grind (arith, nat_tests)
 
--- a call that does nothing appends nothing, also where it is a rollback
+-- a call that does nothing appends nothing, also where it is a rollback or a trim
 told : (vb : Plain) (c : VbCall) (said : VbAnswer) → Holds c vb (vb, quiet_reply said)
 told vb (call.RollTo at image cas) said = (refl, inl refl)
+told vb call.Trim said = (refl, inl refl)
 told vb c said = (refl, sym (append-nil vb.held), omega arith)
 
 appends : (vb : Plain) (c : VbCall) (made : Plain × VbReply) → Appends c → Grows made vb → Holds c vb made
 appends vb (call.RollTo at image cas) made a g = absurd a
+appends vb call.Trim made a g = absurd a
 appends vb c made a g = g
 
 start_grows : (vb : Plain) {c : VbCall} {start : Plain × VbReply} → StartIs vb c start → Grows start vb
@@ -79,6 +81,7 @@ row_grows vb (Writes write clock free) = (refl, refl, (omega arith, omega arith)
 row_grows vb (Receives c a f next is) = (refl, refl, (above vb.position.at c.seq vb.position.se next, omega arith))
 row_grows vb (Settles c start is) = appends vb c _ (loud_appends c (begins vb is).1) (then_grows start vb (start_grows vb is))
 row_grows vb (Rolls at image cas f) = (refl, inr (refl, record { base = refl; held = refl; position = refl; log = refl; counted = refl; spans = refl; floor = refl; saved = refl; flushed = refl; stays = refl }))
+row_grows vb Trims = (refl, inr (record { base = refl; held = refl; stays = refl }))
 row_grows vb (Turns c new loud idle) = appends vb c _ (loud_appends c loud) (refl, sym (append-nil vb.held), omega arith)
 row_grows vb other = (refl, sym (append-nil vb.held), omega arith)
 

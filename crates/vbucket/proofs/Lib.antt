@@ -1,11 +1,13 @@
 mod Adopting
-mod Asks
-mod Closing
+pub mod Asks
+pub mod Closing
 mod Counting
+mod Cursoring
 mod Covering
 pub mod Ending
 mod Dropping
 mod Feeding
+pub mod Fed
 mod Filling
 mod Growing
 pub mod Grown
@@ -41,6 +43,9 @@ mod Slots
 pub mod Soundness
 pub mod Taking
 mod Tidying
+pub mod Trimmed
+mod Trimming
+mod GivenUp
 mod Takeovers
 mod Turns
 mod Writing

@@ -33,6 +33,12 @@ below_tested a b l = grind (arith, nat_tests)
 pub most_of : (a b : ℕ) → nat_le a b ≡ true → a ≤ b
 most_of a b e = grind (arith, nat_tests)
 
+pub most_not : (a b : ℕ) → nat_le a b ≡ false → b < a
+most_not a b e = grind (arith, nat_tests)
+
+pub most_tested : (a b : ℕ) → a ≤ b → nat_le a b ≡ true
+most_tested a b l = grind (arith, nat_tests)
+
 pub both : (a b : Bool) → (a && b) ≡ true → (a ≡ true) × (b ≡ true)
 both true b e = (refl, e)
 both false b e = cc

@@ -61,7 +61,7 @@ few_of : (n : ℕ) → nat_le n 3 ≡ true → n ≤ 3
 few_of n e = grind (arith, nat_tests)
 
 pub relinked : (vb : Plain) (others : Members) (acks : List ℕ) → Sound vb → AreLinked vb.role others acks → Sound (record vb { others = others; acks = acks })
-relinked vb others acks s l = record { spanned = s.spanned; placed = s.placed; stamped = s.stamped; based = s.based; saved = s.saved; counted = record { waits = s.waits; links = l } }
+relinked vb others acks s l = record { spanned = s.spanned; placed = s.placed; stamped = s.stamped; based = s.based; saved = s.saved; counted = record { waits = s.waits; links = l }; feeds = s.feeds }
 
 pub chain_sound : (vb : Plain) (chain : Links) → is_active vb.role ≡ true → Sound vb → is_chain chain.active chain.others ≡ true → Sound (record vb { others = chain.others })
 chain_sound vb chain on s t =

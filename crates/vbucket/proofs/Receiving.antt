@@ -20,7 +20,7 @@ use Rattle.vb_calls.specs.Following.{is_follower, is_answerable, marker_fits, ma
 use Rattle.vbucket.specs.Receiving.{IsFollower, AsksAs, AsksExactly, AdoptsAs, AdoptsExactly, Fits, MarksAs, MarkersExactly, ComesNext, LacksPrepare, IsTakenAs, CountsCas, ReceivesAs, ReceivesExactly}
 use Rattle.vbucket.specs.Adopting.{IsAnswerable}
 use Rattle.vbucket.proofs.Adopting.{exactly}
-use Rattle.vbucket.proofs.Parts.{both, conj, most_of}
+use Rattle.vbucket.proofs.Parts.{both, conj, most_of, most_tested}
 use Rattle.vbucket.proofs.Soundness.{guarded}
 
 pub follower_of : (r : Role) → is_follower r ≡ true → IsFollower r
@@ -81,9 +81,6 @@ pub logs : AdoptsExactly
 logs vb log = adopts vb log (is_follower vb.role) (is_answerable log) refl refl
 
 -- markers
-
-pub most_tested : (a b : ℕ) → a ≤ b → nat_le a b ≡ true
-most_tested a b l = grind (arith, nat_tests)
 
 loaded_role_same : (a b : ℕ) → (a == b) ≡ true → a ≡ b
 loaded_role_same a b e = grind (arith, nat_tests)

@@ -98,7 +98,7 @@ module _ (vb : Plain) where
     greatest = λ key p e c h. due_greatest (pending_prepares vb) (fork_of vb.position) vb.saved p (pend_at (image_in vb).pending key p e) (complete_at_fork vb p.seq c) (of_thirds p.seq h);
   }
 
-  dues : (b : Bool) → is_follower vb.role ≡ b → DuesAs vb (vb, if b then quiet_reply (answer.Num number) else refusal_reply status.NotMyVbucket)
+  dues : (b : Bool) → is_follower vb.role ≡ b → DuesAs vb (vb, if b then quiet_reply (answer.Dues number vb.saved) else refusal_reply status.NotMyVbucket)
   dues true e = record { foreign = (λ q. cc, λ n. absurd (n (follower_of vb.role e))); tells = λ f. (number, refl, is_due); stays = refl }
   dues false e = record { foreign = (λ q. not_follower vb.role e, λ n. refl); tells = λ f. absurd (not_follower vb.role e f); stays = refl }
 

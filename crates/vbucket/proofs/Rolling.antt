@@ -17,9 +17,8 @@ use Rattle.vb_calls.specs.Following.{is_follower, rolled_vb}
 use Rattle.vb_calls.specs.Plain.{Plain}
 use Rattle.vb_calls.specs.Spans.{all_spans, live_in}
 use Rattle.vb_calls.specs.State.{loaded_role, quiet_reply, refusal_reply}
-use Rattle.vb_calls.specs.Streams.{is_in_memory}
 use Rattle.vbucket.specs.Saving.{AreCursors, CountsExactly, CountsInNumbers, IsEntry, LoadsExactly, RollsAs, RollsExactly, lives}
-use Rattle.vbucket.proofs.Closing.{at_floor, below_floor}
+use Rattle.vbucket.proofs.Parts.{most_not, most_of}
 use Rattle.vbucket.proofs.Receiving.{follower_of, not_follower}
 use Rattle.vbucket.proofs.Wholes.{loads_sound}
 
@@ -30,7 +29,7 @@ kept_entry n [] e i = absurd i
 kept_entry n (x ∷ xs) e i = by (nat_le x.seq n) refl i (kept_entry n xs e)
   where
     by : (b : Bool) → nat_le x.seq n ≡ b → IsEntry e (cond b (x ∷ kept_to n xs) (kept_to n xs)) → (IsEntry e (kept_to n xs) → IsEntry e xs × (e.seq ≤ n)) → IsEntry e (x ∷ xs) × (e.seq ≤ n)
-    by true t j ih = ⊎_elim (λ q. let k : e.seq ≡ x.seq = ap (λ (y : LogEntry). y.seq) q in let l = at_floor x.seq n t in (inl q, omega arith)) (λ j. let k = ih j in (inr k.0, k.1)) j
+    by true t j ih = ⊎_elim (λ q. let k : e.seq ≡ x.seq = ap (λ (y : LogEntry). y.seq) q in let l = most_of x.seq n t in (inl q, omega arith)) (λ j. let k = ih j in (inr k.0, k.1)) j
     by false t j ih = let k = ih j in (inr k.0, k.1)
 
 entry_is_kept : (n : ℕ) (log : List LogEntry) (e : LogEntry) → IsEntry e log → e.seq ≤ n → IsEntry e (kept_to n log)
@@ -39,7 +38,7 @@ entry_is_kept n (x ∷ xs) e i l = by (nat_le x.seq n) refl i (λ j. entry_is_ke
   where
     by : (b : Bool) → nat_le x.seq n ≡ b → IsEntry e (x ∷ xs) → (IsEntry e xs → IsEntry e (kept_to n xs)) → IsEntry e (cond b (x ∷ kept_to n xs) (kept_to n xs))
     by true t j ih = ⊎_elim (λ q. inl q) (λ j. inr (ih j)) j
-    by false t j ih = ⊎_elim (λ q. let k : e.seq ≡ x.seq = ap (λ (y : LogEntry). y.seq) q in let m = below_floor x.seq n t in absurd (omega arith)) (λ j. ih j) j
+    by false t j ih = ⊎_elim (λ q. let k : e.seq ≡ x.seq = ap (λ (y : LogEntry). y.seq) q in let m = most_not x.seq n t in absurd (omega arith)) (λ j. ih j) j
 
 rolls_as : (vb : Plain) (at : ℕ) (image : Picture) (cas : ℕ) (b : Bool) → is_follower vb.role ≡ b
     → RollsAs vb at image cas (if b then (rolled_vb vb at image cas, quiet_reply (answer.Num at)) else (vb, refusal_reply status.NotMyVbucket))
@@ -79,23 +78,23 @@ lives_all : (h : List Change) (ws : List Span) → length (flat_map (λ w. live_
 lives_all h [] = refl
 lives_all h (w ∷ ws) = length-append (live_in w h) (flat_map (λ w. live_in w h) ws) ∙ ap (λ n. length (live_in w h) + n) (lives_all h ws)
 
-cursors : (floor : ℕ) (ss : List Stream) → AreCursors floor ss (1 + length (filter (is_in_memory floor) ss))
-cursors floor [] = refl
-cursors floor (s ∷ ss) = by (nat_le floor s.place) refl (cursors floor ss)
+cursors : (ss : List Stream) → AreCursors ss (1 + length (filter (λ s. s.cursor) ss))
+cursors [] = refl
+cursors (s ∷ ss) = by s.cursor refl (cursors ss)
   where
     rest : List Stream
-    rest = filter (is_in_memory floor) ss
+    rest = filter (λ s. s.cursor) ss
 
-    by : (b : Bool) → nat_le floor s.place ≡ b → AreCursors floor ss (1 + length rest) → AreCursors floor (s ∷ ss) (1 + length (cond b (s ∷ rest) rest))
-    by true e ih = inl (at_floor floor s.place e, (1 + length rest, omega arith, ih))
-    by false e ih = inr (below_floor floor s.place e, ih)
+    by : (b : Bool) → s.cursor ≡ b → AreCursors ss (1 + length rest) → AreCursors (s ∷ ss) (1 + length (cond b (s ∷ rest) rest))
+    by true e ih = inl (e, (1 + length rest, omega arith, ih))
+    by false e ih = inr (e, ih)
 
 pub counts : CountsExactly
 counts vb = (
   length (all_spans vb.spans),
   length (flat_map (λ w. live_in w vb.held) (all_spans vb.spans)),
-  1 + length (filter (is_in_memory vb.floor) vb.streams),
-  record { told = refl; windows_counted = refl; of_lives = lives_all vb.held (all_spans vb.spans); of_cursors = cursors vb.floor vb.streams; stays = refl },
+  1 + length (filter (λ s. s.cursor) vb.streams),
+  record { told = refl; windows_counted = refl; of_lives = lives_all vb.held (all_spans vb.spans); of_cursors = cursors vb.streams; stays = refl },
 )
 
 pub in_numbers : CountsInNumbers

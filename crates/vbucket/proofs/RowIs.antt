@@ -11,6 +11,7 @@ use Rattle.vb_types.specs.declared.role.Role.TheVariants as role
 use Rattle.vb_types.specs.declared.status.Status.{Status}
 use Rattle.vb_types.specs.declared.status.Status.TheVariants as status
 use Rattle.vb_types.specs.declared.stream.AskAnswer.TheVariants as ask_answer
+use Rattle.vb_types.specs.declared.stream.Place.TheVariants.{Memory}
 use Rattle.vb_types.specs.declared.stream.StreamAsk.{StreamAsk}
 use Rattle.vb_types.specs.declared.stream.Verdict.{Verdict}
 use Rattle.vb_types.specs.declared.stream.Verdict.TheVariants.{Continue, Roll}
@@ -33,14 +34,16 @@ use Rattle.vb_calls.specs.Roles.{ending_reply, in_role, is_role, led, own_refusa
 use Rattle.vb_calls.specs.Settling.{also_resolved, and_settled}
 use Rattle.vb_calls.specs.Spans.{all_spans, with_seal}
 use Rattle.vb_calls.specs.State.{doc_at, get_reply, is_active, is_left, newest_branch, pending_of, quiet_reply, refusal_reply}
-use Rattle.vb_calls.specs.Streams.{without_stream, end_span, is_in_memory, items_to, judged_open, moved_on, new_stream, open_outcome, open_refusal, place_reply, snapshot_of, stream_at, take_from, take_to}
+use Rattle.vb_calls.specs.Streams.{without_stream, end_span, given_cursor, is_in_memory, items_to, judged_open, moved_on, new_stream, open_outcome, open_refusal, place_from, placed_by, snapshot_of, stream_at, take_from, take_to, without_cursor}
+use Rattle.vb_calls.specs.Trims.{has_cursor, trim_row}
 use Rattle.vb_calls.specs.Writes.{growth, new_cas, store_outcome, store_refusal, write_change}
 use Rattle.vbucket.specs.DurableLaws.{IsQuiet}
 use Rattle.vbucket.specs.Laws.{is_refusal}
 
--- any call but a rollback: the changes of its reply are appended to those that are held
+-- any call but a rollback or a trim: the changes of its reply are appended to those that are held
 abbrev pub Appends : VbCall → Type 0
 Appends (call.RollTo at image cas) = ⊥
+Appends call.Trim = ⊥
 Appends c = Unit {0}
 
 -- a promotion, before anything is committed
@@ -51,10 +54,13 @@ leading vb uuid = (led vb uuid, ending_reply vb (answer.Branch uuid (parent_of v
 abbrev pub inheriting : Plain → Plain × VbReply
 inheriting vb = (risen vb, ending_reply vb answer.Done)
 
--- how a call leaves the streams: with a new one, with one that is fed a snapshot, or without one
+-- how a call leaves the streams: with a new one, with one that is given a cursor or fed a snapshot, with one that has lost its cursor, or without one
 pub data StreamsAre (vb : Plain) : VbCall → List Stream → VbAnswer → Type 0 where
-  Opens : (id : ℕ) (ask : StreamAsk) (sync : Bool) → StreamsAre vb (call.OpenStream id ask sync) (vb.streams ++ new_stream id ask sync ∷ []) (answer.Asked ask_answer.Go vb.log vb.position.at)
-  Feeds : (id : ℕ) (s : Stream) (w : Span) → StreamsAre vb (call.Take id) (map (moved_on s.id w.last) vb.streams) (answer.Taken (snapshot_of s (items_to s (all_spans vb.spans) vb.held w.last)))
+  Opens : (id : ℕ) (ask : StreamAsk) (sync : Bool) → open_refusal vb id ask ≡ None → StreamsAre vb (call.OpenStream id ask sync) (vb.streams ++ new_stream vb id ask sync ∷ []) (answer.Asked ask_answer.Go vb.log vb.position.at)
+  Places : (id : ℕ) (s : Stream) → stream_at id vb.streams ≡ Some s → s.cursor ≡ false → is_in_memory vb s.place ≡ true → StreamsAre vb (call.Place id) (map (given_cursor s.id) vb.streams) (answer.Placed Memory)
+  Feeds : (id : ℕ) (s : Stream) (w : Span) → stream_at id vb.streams ≡ Some s → s.cursor ≡ true → end_span s (all_spans vb.spans) vb.held ≡ Some w
+      → StreamsAre vb (call.Take id) (map (moved_on s.id w.last) vb.streams) (answer.Taken (snapshot_of s (items_to s (all_spans vb.spans) vb.held w.last)))
+  Drops : (id : ℕ) → StreamsAre vb (call.DropCursor id) (map (without_cursor id) vb.streams) (answer.Flag (has_cursor (stream_at id vb.streams)))
   Closes : (id : ℕ) → StreamsAre vb (call.CloseStream id) (without_stream id vb.streams) (answer.Flag (is_some (stream_at id vb.streams)))
 
 -- how a call begins after which all is committed that may be: it prepares a write, sets the chain, counts an acknowledgement or what is saved, gives up what is late, leads a branch, or takes one over
@@ -69,7 +75,7 @@ pub data StartIs (vb : Plain) : VbCall → Plain × VbReply → Type 0 where
   Leads : (uuid : ℕ) → promote_refusal vb uuid ≡ None → StartIs vb (call.Promote uuid) (leading vb uuid)
   Inherits : own_refusal vb ≡ None → StartIs vb call.Own (inheriting vb)
 
--- what a call makes of a vBucket, and its reply: it tells something, or why it is refused, and changes nothing; it changes the streams alone; it takes a log over; it begins a snapshot; it seals the open span; it takes the rest of a span to be written down; it writes or receives one change;
+-- what a call makes of a vBucket, and its reply: it tells something, or why it is refused, and changes nothing; it changes the streams alone; it takes a log over; it begins a snapshot; it seals the open span; it gives up what is needed no more; it takes the rest of a span to be written down; it writes or receives one change;
 -- it begins something and all is committed that may be; it goes back to a seqno; it takes another role, in which nothing is outstanding; or it is given up for one of its streams
 pub data RowIs (vb : Plain) : VbCall → Plain × VbReply → Type 0 where
   Tells : (c : VbCall) (said : VbAnswer) → RowIs vb c (vb, quiet_reply said)
@@ -78,6 +84,7 @@ pub data RowIs (vb : Plain) : VbCall → Plain × VbReply → Type 0 where
   Marks : (start end : ℕ) → is_follower vb.role ≡ true → marker_fits vb.position vb.first start end ≡ true
       → RowIs vb (call.Marker start end) (marked_vb vb start end, quiet_reply (answer.Range (min start vb.position.at) end))
   Seals : (was : Bool) → RowIs vb call.Seal (record vb { spans = with_seal vb.spans }, quiet_reply (answer.Flag was))
+  Trims : RowIs vb call.Trim (trim_row vb)
   Flushes : (w : Span) → unflushed_span vb ≡ Some w → RowIs vb call.FlushTake (record vb { flushed = w.last }, quiet_reply (answer.Rows (batch_of vb w)))
   Writes : (write : Write) (clock : ℕ) → store_refusal vb write ≡ None → RowIs vb (call.Store write clock) (growth vb (write_change vb write (new_cas clock vb.last_cas)) (new_cas clock vb.last_cas))
   Receives : (c : Change) (a : Act) → is_follower vb.role ≡ true → is_next vb.position c.seq ≡ true → completed_act (pending_of vb c.key) c.act ≡ Some a
@@ -87,7 +94,7 @@ pub data RowIs (vb : Plain) : VbCall → Plain × VbReply → Type 0 where
   Turns : (c : VbCall) (new : Role) → (IsQuiet c → ⊥) → is_active new ≡ false → RowIs vb c (in_role vb new, ending_reply vb answer.Done)
   Yields : (id : ℕ) (s : Stream) → is_active vb.role ≡ true → stream_at id vb.streams ≡ Some s → RowIs vb (call.Yield id) (yielded (Some s) vb)
 
--- a call that leaves the streams so is no rollback, and answers no refusal
+-- a call that leaves the streams so is no rollback and no trim, and answers no refusal
 pub restreams : (vb : Plain) {c : VbCall} {streams : List Stream} {said : VbAnswer} → StreamsAre vb c streams said → (is_refusal said ≡ false) × Appends c
 restreams vb (Closes id) = (refl, tt)
 restreams vb other = (refl, tt)
@@ -97,9 +104,10 @@ pub begins : (vb : Plain) {c : VbCall} {start : Plain × VbReply} → StartIs vb
 begins vb (Saves seq) = (refl, λ q. q)
 begins vb other = (refl, λ q. q)
 
--- a call that is no quiet one is no rollback
+-- a call that is no quiet one is no rollback and no trim
 pub loud_appends : (c : VbCall) → (IsQuiet c → ⊥) → Appends c
 loud_appends (call.RollTo at image cas) loud = loud tt
+loud_appends call.Trim loud = loud tt
 loud_appends c loud = tt
 
 module _ (vb : Plain) where
@@ -130,25 +138,34 @@ module _ (vb : Plain) where
   durably write clock wish (Some st) e = Tells _ _
   durably write clock wish None e = Settles _ _ (Prepares write clock wish e)
 
-  judged : (id : ℕ) (ask : StreamAsk) (sync : Bool) (v : Verdict) → RowIs vb (call.OpenStream id ask sync) (judged_open v vb id ask sync)
-  judged id ask sync Continue = Streams _ _ _ (Opens id ask sync)
-  judged id ask sync (Roll to) = Tells _ _
+  judged : (id : ℕ) (ask : StreamAsk) (sync : Bool) (v : Verdict) → open_refusal vb id ask ≡ None → RowIs vb (call.OpenStream id ask sync) (judged_open v vb id ask sync)
+  judged id ask sync Continue e = Streams _ _ _ (Opens id ask sync e)
+  judged id ask sync (Roll to) e = Tells _ _
 
-  opened : (id : ℕ) (ask : StreamAsk) (sync : Bool) (why : Option Status) → RowIs vb (call.OpenStream id ask sync) (open_outcome why vb id ask sync)
-  opened id ask sync (Some st) = Tells _ _
-  opened id ask sync None = judged id ask sync (rule vb.log vb.position.at ask)
+  opened : (id : ℕ) (ask : StreamAsk) (sync : Bool) (why : Option Status) → open_refusal vb id ask ≡ why → RowIs vb (call.OpenStream id ask sync) (open_outcome why vb id ask sync)
+  opened id ask sync (Some st) e = Tells _ _
+  opened id ask sync None e = judged id ask sync (rule vb.log vb.position.at ask) e
 
-  placed : {c : VbCall} (s : Option Stream) → RowIs vb c (vb, place_reply vb.floor s)
-  placed None = Tells _ _
-  placed (Some s) = Tells _ _
+  placed_so : (id : ℕ) (s : Stream) (has there : Bool) → stream_at id vb.streams ≡ Some s → s.cursor ≡ has → is_in_memory vb s.place ≡ there → RowIs vb (call.Place id) (placed_by has there s vb)
+  placed_so id s true there at e f = Tells _ _
+  placed_so id s false true at e f = Streams _ _ _ (Places id s at e f)
+  placed_so id s false false at e f = Tells _ _
 
-  taken_to : (id : ℕ) (s : Stream) (w : Option Span) → RowIs vb (call.Take id) (take_to w s vb)
-  taken_to id s None = Tells _ _
-  taken_to id s (Some w) = Streams _ _ _ (Feeds id s w)
+  placed : (id : ℕ) (o : Option Stream) → stream_at id vb.streams ≡ o → RowIs vb (call.Place id) (place_from o vb)
+  placed id None at = Tells _ _
+  placed id (Some s) at = placed_so id s s.cursor (is_in_memory vb s.place) at refl refl
 
-  taken : (id : ℕ) (s : Option Stream) → RowIs vb (call.Take id) (take_from s vb)
-  taken id None = Tells _ _
-  taken id (Some s) = taken_to id s (if is_in_memory vb.floor s then end_span s (all_spans vb.spans) vb.held else None)
+  taken_to : (id : ℕ) (s : Stream) (w : Option Span) → stream_at id vb.streams ≡ Some s → s.cursor ≡ true → end_span s (all_spans vb.spans) vb.held ≡ w → RowIs vb (call.Take id) (take_to w s vb)
+  taken_to id s None at has e = Tells _ _
+  taken_to id s (Some w) at has e = Streams _ _ _ (Feeds id s w at has e)
+
+  taken_so : (id : ℕ) (s : Stream) (has : Bool) → stream_at id vb.streams ≡ Some s → s.cursor ≡ has → RowIs vb (call.Take id) (take_to (if has then end_span s (all_spans vb.spans) vb.held else None) s vb)
+  taken_so id s true at has = taken_to id s (end_span s (all_spans vb.spans) vb.held) at has refl
+  taken_so id s false at has = Tells _ _
+
+  taken : (id : ℕ) (o : Option Stream) → stream_at id vb.streams ≡ o → RowIs vb (call.Take id) (take_from o vb)
+  taken id None at = Tells _ _
+  taken id (Some s) at = taken_so id s s.cursor at refl
 
   received : (c : Change) (a : Option Act) → is_follower vb.role ≡ true → is_next vb.position c.seq ≡ true → completed_act (pending_of vb c.key) c.act ≡ a → RowIs vb (call.Receive c) (receive_as a vb c)
   received c None f next e = Tells _ _
@@ -178,9 +195,9 @@ module _ (vb : Plain) where
   row_is (call.Ack member seq) = made_if _ (is_active vb.role) (λ on. made_unless _ (nat_lt vb.position.at seq) (Settles _ _ (Counts member seq on)))
   row_is (call.Tick clock) = made_if _ (is_active vb.role) (λ on. Settles _ _ (Expires clock on))
   row_is call.Due = told (is_follower vb.role) _ _
-  row_is (call.OpenStream id ask sync) = opened id ask sync (open_refusal vb id ask)
-  row_is (call.Place id) = placed (stream_at id vb.streams)
-  row_is (call.Take id) = taken id (stream_at id vb.streams)
+  row_is (call.OpenStream id ask sync) = opened id ask sync (open_refusal vb id ask) refl
+  row_is (call.Place id) = placed id (stream_at id vb.streams) refl
+  row_is (call.Take id) = taken id (stream_at id vb.streams) refl
   row_is (call.CloseStream id) = Streams _ _ _ (Closes id)
   row_is call.Ask = told (is_follower vb.role) _ _
   row_is (call.Adopt log) = made_if _ (is_follower vb.role) (λ f. made_if _ (is_answerable log) (λ e. Adopts log f))
@@ -194,6 +211,8 @@ module _ (vb : Plain) where
   row_is call.Own = owning (own_refusal vb) refl
   row_is (call.Yield id) = made_if _ (is_active vb.role) (λ on. yielding id (stream_at id vb.streams) on refl)
   row_is call.Seal = Seals _
+  row_is call.Trim = Trims
+  row_is (call.DropCursor id) = Streams _ _ _ (Drops id)
   row_is call.FlushTake = flushed (unflushed_span vb) refl
   row_is (call.FlushDone seq) = Settles _ _ (Saves seq)
   row_is call.Stat = Tells _ _

@@ -1,5 +1,5 @@
 -- a vBucket stays sound
-use Rattle.std.proofs.Common.{◌≡◌, ◌≢◌, ℕ, ◌^◌, ◌<◌, ◌≤◌, Bool, true, false, List, [], ◌∷◌, refl, subst, arith}
+use Rattle.std.proofs.Common.{◌≡◌, ◌≢◌, ℕ, ◌^◌, ◌<◌, ◌≤◌, Bool, true, false, List, [], ◌∷◌, refl, sym, subst, arith}
 use Rattle.std.specs.Prelude.{take, Option, Some, None, is_some, if◌then◌else◌, nat_le, nat_lt, max, ◌&&◌, ◌||◌, ◌==◌}
 use Rattle.std.specs.FinMap as finite
 use Rattle.std.proofs.lemmas.Bool.Decides.{nat_tests}
@@ -27,14 +27,20 @@ use Rattle.vb_calls.specs.Following.{cas_of, committed_act, completed_act, is_fo
 use Rattle.vb_calls.specs.Roles.{in_role_with, is_heir, is_role, led, own_refusal, risen}
 use Rattle.vb_calls.specs.Spans.{all_spans}
 use Rattle.vb_calls.specs.State.{Plain, complete_position, image_in, is_active, new_vb, pending_of, refusal_reply}
-use Rattle.vbucket.specs.Laws.{IsOwn, IsTimely, PendSeqsUpTo, PendsDiffer, PendsUpTo, Sound, StartsSound, StaysSound}
+use Rattle.vb_calls.specs.Streams.{new_stream}
+use Rattle.vb_calls.specs.declared.calls.VbAnswer.{VbAnswer}
+use Rattle.vbucket.specs.Laws.{AreFed, IsOwn, IsTimely, PendSeqsUpTo, PendsDiffer, PendsUpTo, Sound, StartsSound, StaysSound}
 use Rattle.vbucket.proofs.Backing.{backed_idle, backed_left, backed_new, backed_turned, linked_new}
-use Rattle.vbucket.proofs.Parts.{found}
+use Rattle.vbucket.proofs.Fed.{feeds_closed, feeds_dropped, feeds_given, feeds_moved, feeds_none, feeds_one, feeds_opened, follows_none}
+use Rattle.vbucket.proofs.Feeding.{found_at}
+use Rattle.vbucket.proofs.Parts.{ends_above, found, most_of}
 use Rattle.vbucket.proofs.Pending.{pends_fold, pends_more, pends_nothing}
 use Rattle.vbucket.proofs.Preparing.{ack_sound, aborts_sound, chain_sound, prepared_sound}
-use Rattle.vbucket.proofs.RowIs.{RowIs, StartIs, Adopts, Chains, Counts, Expires, Flushes, Inherits, Leads, Marks, Prepares, Receives, Rolls, Saves, Seals, Settles, Streams, Tells, Turns, Writes, Yields, row_is}
+use Rattle.vbucket.proofs.RowIs.{RowIs, StartIs, StreamsAre, Adopts, Chains, Closes, Counts, Drops, Expires, Feeds, Flushes, Inherits, Leads, Marks, Opens, Places, Prepares, Receives, Rolls, Saves, Seals, Settles, Streams, Tells, Trims, Turns, Writes, Yields, row_is}
 use Rattle.vbucket.proofs.Settling.{settled_sound}
 use Rattle.vbucket.proofs.Spanned.{received_spanned, sealed_spanned, spanned_none, taken_spanned}
+use Rattle.vbucket.proofs.Steadying.{may_open}
+use Rattle.vbucket.proofs.Trimmed.{trimmed_sound}
 use Rattle.vbucket.proofs.Storing.{casses_push, differ_at, stored_sound}
 pub use Rattle.vbucket.proofs.Storing.{active_of, cas_rises}
 
@@ -65,6 +71,7 @@ marked_sound vb start end f d s =
       based = s.based;
       saved = s.saved;
       counted = s.counted;
+      feeds = s.feeds;
     }
   where
     fits_of : (start end at : ℕ) (b : Bool) → (nat_le start end && nat_le at end && nat_le end MAX_SEQ && b) ≡ true → (at ≤ end) × (end ≤ 2 ^ 48)
@@ -104,19 +111,21 @@ received_sound vb c a f next is s k =
       based = s.based;
       saved = s.saved;
       counted = record { waits = backed_idle vb.role (image_in vb) (image_in (with_received_change vb new).0) vb.position.at c.seq vb.waiting (follows_idle vb.role f) s.waits; links = s.links };
+      feeds = s.feeds;
     }
   where
     next_of : (at seq se : ℕ) → (nat_lt at seq && nat_le seq se) ≡ true → (at < seq) × (seq ≤ se)
     next_of at seq se e = (grind (arith, nat_tests), grind (arith, nat_tests))
 
-turned_sound : (vb : Plain) (new : Role) (streams : List Stream) → is_active new ≡ false → Sound vb → Sound (in_role_with vb new streams)
-turned_sound vb new streams e s = record {
+turned_sound : (vb : Plain) (new : Role) (streams : List Stream) → is_active new ≡ false → AreFed new vb.floor streams → Sound vb → Sound (in_role_with vb new streams)
+turned_sound vb new streams e f s = record {
   spanned = sealed_spanned new s.spanned;
   placed = record { capped = s.capped; within = s.within; own = idle_own new vb.position vb.log e };
   stamped = s.stamped;
   based = s.based;
   saved = s.saved;
   counted = record { waits = backed_turned new (image_in vb) vb.position.at e; links = linked_new new };
+  feeds = f;
 }
 
 has_front : (e : LogEntry) (older : List LogEntry) → e ∷ older ≢ []
@@ -134,6 +143,7 @@ risen_sound vb log some s =
       based = s.based;
       saved = s.saved;
       counted = record { waits = backed_left (image_in vb) vb.position.at (differ_at vb s); links = linked_new role.Active };
+      feeds = feeds_none role.Active vb.floor;
     }
 
 pub led_sound : (vb : Plain) (uuid : ℕ) → Sound vb → Sound (led vb uuid)
@@ -169,6 +179,7 @@ rolled_sound vb at image cas f s t =
       based = record { low = t.3; apart = t.4 };
       saved = omega arith;
       counted = record { waits = backed_idle vb.role (image_in vb) image vb.position.at at vb.waiting (follows_idle vb.role f) s.waits; links = s.links };
+      feeds = subst (AreFed vb.role at) (sym (follows_none vb.role vb.floor vb.streams f s.feeds)) (feeds_none vb.role at);
     }
 
 -- what is taken to be written down, and what is
@@ -176,10 +187,10 @@ rolled_sound vb at image cas f s t =
 pub flushed_most : (vb : Plain) (w : Span) → Sound vb → unflushed_span vb ≡ Some w → Sound (record vb { flushed = w.last })
 flushed_most vb w s e =
     let one = (found (λ v. nat_lt vb.flushed v.last) (all_spans vb.spans) w e).0 in
-    record { spanned = taken_spanned vb w s.spanned one; placed = s.placed; stamped = s.stamped; based = s.based; saved = s.saved; counted = s.counted }
+    record { spanned = taken_spanned vb w s.spanned one; placed = s.placed; stamped = s.stamped; based = s.based; saved = s.saved; counted = s.counted; feeds = s.feeds }
 
 pub saved_sound : (vb : Plain) (seq : ℕ) → Sound vb → Sound (record vb { saved = max vb.saved seq })
-saved_sound vb seq s = record { spanned = s.spanned; placed = s.placed; stamped = s.stamped; based = s.based; saved = (let m : vb.floor ≤ vb.saved = s.saved in omega arith); counted = s.counted }
+saved_sound vb seq s = record { spanned = s.spanned; placed = s.placed; stamped = s.stamped; based = s.based; saved = (let m : vb.floor ≤ vb.saved = s.saved in omega arith); counted = s.counted; feeds = s.feeds }
 
 -- each call
 
@@ -192,20 +203,33 @@ start_sound vb (Saves seq) s t = saved_sound vb seq s
 start_sound vb (Leads uuid free) s t = led_sound vb uuid s
 start_sound vb (Inherits free) s t = inherited_sound vb free s
 
+streams_feed : (vb : Plain) {c : VbCall} {streams : List Stream} {said : VbAnswer} → StreamsAre vb c streams said → Sound vb → AreFed vb.role vb.floor streams
+streams_feed vb (Opens id ask sync e) s =
+    let may = may_open vb id ask e in
+    feeds_opened vb.role vb.floor vb.streams (new_stream vb id ask sync) may.0 s.feeds may.1 (λ t. most_of vb.floor ask.start t)
+streams_feed vb (Places id it at has there) s = feeds_given vb.role vb.floor it.id vb.streams it s.feeds (found_at id vb.streams it at) (most_of vb.floor it.place there)
+streams_feed vb (Feeds id it w at has e) s =
+    let one = (found _ (all_spans vb.spans) w e).0 in
+    let above : vb.floor < w.last = ends_above vb.floor vb.position.at (all_spans vb.spans) w s.spans one in
+    feeds_moved vb.role vb.floor it.id w.last vb.streams it s.feeds (found_at id vb.streams it at) (omega arith)
+streams_feed vb (Drops id) s = feeds_dropped vb.role vb.floor id vb.streams s.feeds
+streams_feed vb (Closes id) s = feeds_closed vb.role vb.floor id vb.streams s.feeds
+
 row_sound : (vb : Plain) {c : VbCall} {made : Plain × VbReply} → RowIs vb c made → Sound vb → IsTimely c → Sound made.0
 row_sound vb (Tells c said) s t = s
-row_sound vb (Streams c streams said is) s t = record { spanned = s.spanned; placed = s.placed; stamped = s.stamped; based = s.based; saved = s.saved; counted = s.counted }
+row_sound vb (Streams c streams said is) s t = record { spanned = s.spanned; placed = s.placed; stamped = s.stamped; based = s.based; saved = s.saved; counted = s.counted; feeds = streams_feed vb is s }
 row_sound vb (Adopts log f) s t =
-    record { spanned = s.spanned; placed = record { capped = s.capped; within = s.within; own = idle_own vb.role vb.position log (follows_idle vb.role f) }; stamped = s.stamped; based = s.based; saved = s.saved; counted = s.counted }
+    record { spanned = s.spanned; placed = record { capped = s.capped; within = s.within; own = idle_own vb.role vb.position log (follows_idle vb.role f) }; stamped = s.stamped; based = s.based; saved = s.saved; counted = s.counted; feeds = s.feeds }
 row_sound vb (Marks start end f fits) s t = marked_sound vb start end f fits s
-row_sound vb (Seals was) s t = record { spanned = sealed_spanned vb.role s.spanned; placed = s.placed; stamped = s.stamped; based = s.based; saved = s.saved; counted = s.counted }
+row_sound vb (Seals was) s t = record { spanned = sealed_spanned vb.role s.spanned; placed = s.placed; stamped = s.stamped; based = s.based; saved = s.saved; counted = s.counted; feeds = s.feeds }
+row_sound vb Trims s t = trimmed_sound vb s
 row_sound vb (Flushes w e) s t = flushed_most vb w s e
 row_sound vb (Writes write clock free) s t = stored_sound vb write clock free s t
 row_sound vb (Receives c a f next is) s t = received_sound vb c a f next is s t
 row_sound vb (Settles c start is) s t = settled_sound start.0 (start_sound vb is s t)
 row_sound vb (Rolls at image cas f) s t = rolled_sound vb at image cas f s t
-row_sound vb (Turns c new loud idle) s t = turned_sound vb new [] idle s
-row_sound vb (Yields id kept on at) s t = turned_sound vb role.Dead (kept ∷ []) refl s
+row_sound vb (Turns c new loud idle) s t = turned_sound vb new [] idle (feeds_none new vb.floor) s
+row_sound vb (Yields id kept on at) s t = turned_sound vb role.Dead (kept ∷ []) refl (feeds_one vb.role vb.floor id vb.streams kept s.feeds at) s
 
 pub stays : StaysSound
 stays vb call s t = row_sound vb (row_is vb call) s t
@@ -227,4 +251,5 @@ starts node r uuid = record {
   };
   saved = omega arith;
   counted = record { waits = backed_new r; links = linked_new r };
+  feeds = feeds_none r 0;
 }

@@ -33,12 +33,12 @@ use Rattle.vb_calls.specs.Roles.{ending_reply, in_role, is_role, pend_row, seal_
 use Rattle.vb_calls.specs.Flushing.{flush_from, flush_row, stat_row, unflushed_span}
 use Rattle.vb_calls.specs.State.{Plain, complete_position, get_row, newest_branch, pending_of, is_active, loaded_role, loaded_vb, log_row, new_vb, quiet_reply, refusal_reply, show_row}
 use Rattle.vb_calls.specs.Spans.{Spans, all_spans, live_in, no_spans, span_position, with_seal}
-use Rattle.vb_calls.specs.Streams.{close_row, end_span, is_in_memory, judged_open, moved_on, need_of, open_outcome, open_refusal, open_row, place_reply, place_row, snapshot_of, stream_at, take_from, take_row, take_to}
+use Rattle.vb_calls.specs.Streams.{close_row, end_span, is_in_memory, judged_open, moved_on, need_of, open_outcome, open_refusal, open_row, place_from, place_row, placed_by, snapshot_of, stream_at, take_from, take_row, take_to}
 use Rattle.vb_calls.specs.Writes.{growth, key_refusal, lacks_seqnos, new_cas, store_outcome, store_refusal, store_row, write_change}
 use Rattle.checkpoint.specs.Checkpoints.{ckpt_span}
 use Rattle.cursor_set.specs.Cursors.{place_of}
 use Rattle.ckpt_list.specs.Lists.{Ckpts, between, ckpts_at, held_of, queued, sealed_list, stop_of, window_at, window_of}
-use Rattle.vbucket.specs.Kept.{Kept, SameChanges, SealedIf, kept_flush, kept_flush_from, kept_flush_to, kept_growth, kept_outcome, kept_place, kept_receive, kept_receive_as, kept_received, kept_roll, kept_rolled, kept_stat, kept_store, kept_take, kept_take_from, kept_take_to}
+use Rattle.vbucket.specs.Kept.{Kept, SameChanges, SealedIf, kept_flush, kept_flush_from, kept_flush_to, floored, kept_growth, kept_open, kept_outcome, kept_place, kept_receive, kept_receive_as, kept_received, kept_roll, kept_rolled, kept_stat, kept_store, kept_take, kept_take_from, kept_take_to, restreamed}
 use Rattle.vbucket.specs.Laws.{AllSpans, AreSpanned, Follow, OpensOwn}
 use Rattle.vbucket.specs.Stands.{IsKept, ListStands, folded}
 use Rattle.vbucket.proofs.Feeding.{zero_alone, zero_moved}
@@ -105,7 +105,7 @@ Folds row s = row (folded s) ≡ (folded (row s).0, (row s).1)
 rest_of : (row : Plain → Plain × VbReply) (k k' : Kept) (s : Plain) (reply : VbReply) → IsKept k s → Folds row s → (k'.rest, reply) ≡ row k.rest → (k'.rest ≡ folded (row s).0) × (reply ≡ (row s).1)
 rest_of row k k' s reply is f e = let q : (k'.rest, reply) ≡ (folded (row s).0, (row s).1) = e ∙ ap row is.rest ∙ f in (ap (λ p. p.0) q, ap (λ p. p.1) q)
 
-same_stands : (row : Plain → Plain × VbReply) (k k' : Kept) (s : Plain) (reply : VbReply) → IsKept k s → Folds row s → Alike s (row s).0 → (k'.rest, reply) ≡ row k.rest → SameChanges k.list k'.list → Stands k' reply (row s)
+pub same_stands : (row : Plain → Plain × VbReply) (k k' : Kept) (s : Plain) (reply : VbReply) → IsKept k s → Folds row s → Alike s (row s).0 → (k'.rest, reply) ≡ row k.rest → SameChanges k.list k'.list → Stands k' reply (row s)
 same_stands row k k' s reply is f a e l = let r = rest_of row k k' s reply is f e in (kept_same k k' s (row s).0 is a r.0 l, r.1)
 
 sealed_stands : (row : Plain → Plain × VbReply) (k k' : Kept) (s : Plain) (reply : VbReply) → IsKept k s → Folds row s → AlikeSealed s (row s).0 → (k'.rest, reply) ≡ row k.rest → SameChanges (sealed_list k.list) k'.list → Stands k' reply (row s)
@@ -122,10 +122,6 @@ idle_stands k k' s reply said is e q = (subst (λ (x : Kept). IsKept x s) (sym e
 pub get_stands : (k : Kept) (s : Plain) → IsKept k s → (k' : Kept) (reply : VbReply) (key : List ℕ) → k' ≡ k → reply ≡ get_row k.rest key → IsKept k' s × (reply ≡ get_row s key)
 get_stands k s is k' reply key e q = idle_stands k k' s reply (get_row s key) is e (q ∙ ap (λ r. get_row r key) is.rest)
 
-pub place_stands : (k : Kept) (s : Plain) → IsKept k s → (k' : Kept) (reply : VbReply) (id : ℕ) → k' ≡ k → reply ≡ kept_place k id → IsKept k' s × (reply ≡ place_row s id)
-place_stands k s is k' reply id e q =
-    idle_stands k k' s reply (place_row s id) is e (q ∙ ap (λ n. place_reply n (stream_at id k.rest.streams)) is.floor ∙ ap (λ (r : Plain). place_reply s.floor (stream_at id r.streams)) is.rest)
-
 pub stat_stands : (k : Kept) (s : Plain) → IsKept k s → (k' : Kept) (reply : VbReply) → k' ≡ k → reply ≡ kept_stat k → IsKept k' s × (reply ≡ stat_row s)
 stat_stands k s is k' reply e q = idle_stands k k' s reply (stat_row s) is e (q ∙ told)
   where
@@ -139,7 +135,7 @@ stat_stands k s is k' reply e q = idle_stands k k' s reply (stat_row s) is e (q 
     told = λ i. quiet_reply (answer.Stat
         (length (all_spans (is.list.spans i)))
         (length (items i))
-        (1 + length (filter (is_in_memory (is.floor i)) (rest i).streams))
+        (1 + length (filter (λ s. s.cursor) (rest i).streams))
         (rest i).saved
         (rest i).position.at)
 
@@ -152,32 +148,56 @@ log_stands k s is k' reply e q = idle_stands k k' s reply (log_row s) is e (q �
 pub show_stands : (k : Kept) (s : Plain) → IsKept k s → (k' : Kept) (reply : VbReply) → k' ≡ k → reply ≡ show_row k.rest → IsKept k' s × (reply ≡ show_row s)
 show_stands k s is k' reply e q = idle_stands k k' s reply (show_row s) is e (q ∙ ap show_row is.rest)
 
+-- a vBucket whose changes are folded, but for where they began
+abbrev at_floor : Plain → Plain
+at_floor s = record (folded s) { floor = s.floor }
+
+-- a row changes the streams alone, and changes them so where all else is folded
+record Restreams (s : Plain) (after folded_after : Plain × VbReply) : Type 0 where
+  alone : after.0 ≡ record s { streams = after.0.streams }
+  folds : ◌≡◌ {A = List Stream × VbReply} (folded_after.0.streams, folded_after.1) (after.0.streams, after.1)
+
+restreams_stand : (row : Plain → Plain × VbReply) (k k' : Kept) (s : Plain) (reply : VbReply) → IsKept k s → Restreams s (row s) (row (at_floor s)) → (k'.rest, reply) ≡ restreamed row k → SameChanges k.list k'.list → Stands k' reply (row s)
+restreams_stand row k k' s reply is r e l =
+    let rest : k.rest ≡ folded s = is.rest in
+    let floor : k.list.floor ≡ s.floor = is.floor in
+    let begun : floored k ≡ at_floor s = λ i. record (rest i) { floor = floor i } in
+    let q : (k'.rest, reply) ≡ (record (folded s) { streams = (row s).0.streams }, (row s).1) =
+    e ∙ (λ i. (record (rest i) { streams = (row (begun i)).0.streams }, (row (begun i)).1)) ∙ ap (λ p. (record (folded s) { streams = p.0 }, p.1)) r.folds in
+    (kept_same k k' s (row s).0 is (ap lie_of r.alone) (ap (λ p. p.0) q ∙ sym (ap folded r.alone)) l, ap (λ p. p.1) q)
+
 -- a request for a stream
 
-open_folds : (s : Plain) (id : ℕ) (ask : StreamAsk) (sync : Bool) → Folds (λ vb. open_row vb id ask sync) s
-open_folds s id ask sync = by (open_refusal s id ask) (rule s.log s.position.at ask)
+open_restreams : (s : Plain) (id : ℕ) (ask : StreamAsk) (sync : Bool) → Restreams s (open_row s id ask sync) (open_row (at_floor s) id ask sync)
+open_restreams s id ask sync = by (open_refusal s id ask)
   where
-    judged : (v : Verdict) → judged_open v (folded s) id ask sync ≡ (folded (judged_open v s id ask sync).0, (judged_open v s id ask sync).1)
-    judged Continue = refl
-    judged (Roll to) = refl
+    judged : (v : Verdict) → Restreams s (judged_open v s id ask sync) (judged_open v (at_floor s) id ask sync)
+    judged Continue = record { alone = refl; folds = refl }
+    judged (Roll to) = record { alone = refl; folds = refl }
 
-    by : (why : Option Status) (v : Verdict) → open_outcome why (folded s) id ask sync ≡ (folded (open_outcome why s id ask sync).0, (open_outcome why s id ask sync).1)
-    by (Some st) v = refl
-    by None v = judged (rule s.log s.position.at ask)
-
-open_alike : (s : Plain) (id : ℕ) (ask : StreamAsk) (sync : Bool) → Alike s (open_row s id ask sync).0
-open_alike s id ask sync = by (open_refusal s id ask)
-  where
-    judged : (v : Verdict) → Alike s (judged_open v s id ask sync).0
-    judged Continue = refl
-    judged (Roll to) = refl
-
-    by : (why : Option Status) → Alike s (open_outcome why s id ask sync).0
-    by (Some st) = refl
+    by : (why : Option Status) → Restreams s (open_outcome why s id ask sync) (open_outcome why (at_floor s) id ask sync)
+    by (Some st) = record { alone = refl; folds = refl }
     by None = judged (rule s.log s.position.at ask)
 
-pub open_stands : (k : Kept) (s : Plain) → IsKept k s → (k' : Kept) (reply : VbReply) (id : ℕ) (ask : StreamAsk) (sync : Bool) → (k'.rest, reply) ≡ open_row k.rest id ask sync → SameChanges k.list k'.list → Stands k' reply (open_row s id ask sync)
-open_stands k s is k' reply id ask sync e l = same_stands (λ vb. open_row vb id ask sync) k k' s reply is (open_folds s id ask sync) (open_alike s id ask sync) e l
+pub open_stands : (k : Kept) (s : Plain) → IsKept k s → (k' : Kept) (reply : VbReply) (id : ℕ) (ask : StreamAsk) (sync : Bool) → (k'.rest, reply) ≡ kept_open k id ask sync → SameChanges k.list k'.list → Stands k' reply (open_row s id ask sync)
+open_stands k s is k' reply id ask sync e l = restreams_stand (λ vb. open_row vb id ask sync) k k' s reply is (open_restreams s id ask sync) e l
+
+-- and where its changes come from
+
+place_restreams : (s : Plain) (id : ℕ) → Restreams s (place_row s id) (place_row (at_floor s) id)
+place_restreams s id = by (stream_at id s.streams)
+  where
+    placed : (t : Stream) (has there : Bool) → Restreams s (placed_by has there t s) (placed_by has there t (at_floor s))
+    placed t true there = record { alone = refl; folds = refl }
+    placed t false true = record { alone = refl; folds = refl }
+    placed t false false = record { alone = refl; folds = refl }
+
+    by : (o : Option Stream) → Restreams s (place_from o s) (place_from o (at_floor s))
+    by None = record { alone = refl; folds = refl }
+    by (Some t) = placed t t.cursor (is_in_memory s t.place)
+
+pub place_stands : (k : Kept) (s : Plain) → IsKept k s → (k' : Kept) (reply : VbReply) (id : ℕ) → (k'.rest, reply) ≡ kept_place k id → SameChanges k.list k'.list → Stands k' reply (place_row s id)
+place_stands k s is k' reply id e l = restreams_stand (λ vb. place_row vb id) k k' s reply is (place_restreams s id) e l
 
 pub close_stands : (k : Kept) (s : Plain) → IsKept k s → (k' : Kept) (reply : VbReply) (id : ℕ) → (k'.rest, reply) ≡ close_row k.rest id → SameChanges k.list k'.list → Stands k' reply (close_row s id)
 close_stands k s is k' reply id e l = same_stands (λ vb. close_row vb id) k k' s reply is refl refl e l
@@ -440,10 +460,8 @@ take_stands k s is k' reply id e z =
     by : (st : Option Stream) → Takes k (kept_take_from st k) (take_from st s)
     by None z = (is, refl)
     by (Some st) z =
-        let memory : is_in_memory k.list.floor st ≡ is_in_memory s.floor st = ap (λ n. is_in_memory n st) is.floor in
-        let b : Bool = is_in_memory s.floor st in
-        subst (λ c. Takes k (kept_take_to (stop c st) st k) (take_to (end b st) st s)) (sym memory)
-        (subst (λ o. Takes k (kept_take_to o st k) (take_to (end b st) st s)) (sym (stops b st)) (to st (end b st) (ends b st))) z
+        let b : Bool = st.cursor in
+        subst (λ o. Takes k (kept_take_to o st k) (take_to (end b st) st s)) (sym (stops b st)) (to st (end b st) (ends b st)) z
 
 -- what is taken to be written down
 

@@ -1,33 +1,35 @@
 -- what is kept stays steady
-use Rattle.std.proofs.Common.{◌≡◌, ℕ, suc, ◌<◌, ◌≤◌, length, Bool, true, false, cond, List, [], ◌∷◌, ◌++◌, map, refl, ap, sym, subst, ◌∙◌, arith}
+use Rattle.std.proofs.Common.{◌≡◌, ℕ, ◌<◌, ◌≤◌, Bool, true, false, cond, List, [], ◌∷◌, ◌++◌, map, refl, ap, sym, subst, ◌∙◌, arith}
 use Rattle.std.specs.Prelude.{◌==◌, not, nat_le, nat_lt, ◌&&◌, ◌||◌, if◌then◌else◌, Option, Some, None}
 use Rattle.std.specs.List.{filter, find, list_any}
 use Rattle.std.specs.Str.{bytes_eq}
 use Rattle.std.specs.FinMap as finite
 use Rattle.std.specs.Cmp.{nat_cmp_total}
 use Rattle.std.proofs.lemmas.Bool.Decides.{nat_tests}
-use Rattle.std.proofs.lemmas.List.{length-map}
 use Rattle.vb_types.specs.declared.change.Change.{Change}
 use Rattle.branch_model.specs.Histories.{last_seq}
 use Rattle.vb_calls.specs.declared.span.Origin.{Origin}
 use Rattle.vb_calls.specs.declared.span.Span.{Span}
 use Rattle.vb_calls.specs.declared.stream.Stream.{Stream}
 use Rattle.vb_calls.specs.Spans.{all_spans, is_whole}
-use Rattle.vb_calls.specs.Streams.{is_in_memory, stream_at, without_stream, first_reason, id_refusal, is_ranged, is_seen, moved_on, need_of, open_refusal, snapshot_of}
+use Rattle.vb_calls.specs.Streams.{given_cursor, is_in_memory, place_from, place_reply, placed_by, stream_at, without_stream, first_reason, id_refusal, is_ranged, is_seen, moved_on, need_of, open_refusal, snapshot_of}
 use Rattle.checkpoint.specs.Checkpoints.{ckpt_span, ckpt_with, fits_in}
 use Rattle.cursor_set.specs.Cursors.{Places, place_of, may_advance}
 use Rattle.ckpt_list.specs.Lists.{Ckpts, between, ckpts_at, ends_of, held_of, high_of, is_own, may_stop, moved_cursor, opened, queued, queued_by, sealed_list, spans_of, stop_of}
-use Rattle.vb_types.specs.declared.role.Role.TheVariants as roles
 use Rattle.vb_types.specs.declared.status.Status.TheVariants as status
+use Rattle.vb_types.specs.declared.stream.Place.TheVariants.{Memory}
 use Rattle.vb_types.specs.declared.stream.StreamAsk.{StreamAsk}
 use Rattle.vb_calls.specs.declared.calls.VbAnswer.TheVariants as answer
 use Rattle.vb_calls.specs.declared.calls.VbReply.{VbReply}
 use Rattle.vb_calls.specs.State.{Plain, is_active, quiet_reply}
 use Rattle.vb_calls.specs.Following.{is_follower}
-use Rattle.vbucket.specs.Kept.{Kept, SameChanges, kept_take, kept_take_from, kept_take_to, sent_items}
-use Rattle.vbucket.specs.Steady.{stream_place, with_cursor, CursorsAreStreams, IsSteady, MayFeed}
+use Rattle.vbucket.specs.Kept.{Kept, SameChanges, floored, kept_place, kept_take, kept_take_from, kept_take_to, restreamed, sent_items}
+use Rattle.vbucket.specs.Laws.{AreFed}
+use Rattle.vbucket.specs.Steady.{stream_place, with_cursor, CursorsAreStreams, IsSteady}
 use Rattle.vb_types.specs.declared.role.Role.{Role}
-use Rattle.vbucket.proofs.Feeding.{fed_moved, fed_none, fed_opened, tie}
+use Rattle.vbucket.proofs.Parts.{most_of}
+use Rattle.vbucket.proofs.Fed.{feeds_closed, feeds_given, feeds_moved, feeds_none, feeds_opened, follows_none}
+use Rattle.vbucket.proofs.Feeding.{fed_given, fed_moved, fed_none, fed_opened, named, tie}
 
 -- where a take may end
 
@@ -80,46 +82,6 @@ queued_high l origin c = by (ckpt_span l.newest)
         fits true = last_pushed l.newest.above (filter (λ d. not (bytes_eq d.key c.key)) l.newest.items) c
         fits false = refl
 
--- which streams a vBucket may have in a role
-
-pub none_few : (r : Role) → MayFeed r []
-none_few roles.Active = tt
-none_few roles.Replica = refl
-none_few roles.Pending = refl
-none_few roles.Dead = omega arith
-
-any_few : (r : Role) (streams : List Stream) → is_active r ≡ true → MayFeed r streams
-any_few roles.Active streams e = tt
-any_few roles.Replica streams e = cc
-any_few roles.Pending streams e = cc
-any_few roles.Dead streams e = cc
-
-follows_none : (r : Role) (streams : List Stream) → is_follower r ≡ true → MayFeed r streams → streams ≡ []
-follows_none roles.Active streams e f = cc
-follows_none roles.Replica streams e f = f
-follows_none roles.Pending streams e f = f
-follows_none roles.Dead streams e f = cc
-
-fewer : (id : ℕ) (streams : List Stream) → length (without_stream id streams) ≤ length streams
-fewer id [] = omega arith
-fewer id (s ∷ ss) = by (s.id == id) (fewer id ss)
-  where
-    by : (b : Bool) → length (without_stream id ss) ≤ length ss → length (cond (not b) (s ∷ without_stream id ss) (without_stream id ss)) ≤ suc (length ss)
-    by true l = omega arith
-    by false l = omega arith
-
-few_closed : (r : Role) (id : ℕ) (streams : List Stream) → MayFeed r streams → MayFeed r (without_stream id streams)
-few_closed roles.Active id streams f = tt
-few_closed roles.Replica id streams f = ap (without_stream id) f
-few_closed roles.Pending id streams f = ap (without_stream id) f
-few_closed roles.Dead id streams f = let l = fewer id streams in omega arith
-
-few_moved : (r : Role) (id end : ℕ) (streams : List Stream) → MayFeed r streams → MayFeed r (map (moved_on id end) streams)
-few_moved roles.Active id end streams f = tt
-few_moved roles.Replica id end streams f = ap (map (moved_on id end)) f
-few_moved roles.Pending id end streams f = ap (map (moved_on id end)) f
-few_moved roles.Dead id end streams f = subst (λ n. n ≤ 1) (sym (length-map streams (moved_on id end))) f
-
 -- a change moves no cursor, nor the floor
 abbrev Marked : Ckpts → Ckpts → Type 0
 Marked m l = (m.places ≡ l.places) × (m.floor ≡ l.floor)
@@ -144,19 +106,17 @@ queued_floor l origin c = (queued_marked l origin c).1
 pub queued_steady : (role : Role) (at : ℕ) (l : Ckpts) (streams : List Stream) (origin : Origin) (c : Change) (m : Ckpts) (n : ℕ) → IsSteady role at l streams → m ≡ queued l origin c → n ≡ c.seq → IsSteady role n m streams
 queued_steady role at l streams origin c m n is e seq = record {
   high = ap high_of e ∙ queued_high l origin c ∙ sym seq;
-  fed =
-      let k = queued_marked l origin c in
-      subst (λ p. CursorsAreStreams p m.floor streams) (sym (ap (λ (x : Ckpts). x.places) e ∙ k.0)) (subst (λ f. CursorsAreStreams l.places f streams) (sym (ap (λ (x : Ckpts). x.floor) e ∙ k.1)) is.fed);
-  few = is.few;
+  fed = subst (λ p. CursorsAreStreams p streams) (sym (ap (λ (x : Ckpts). x.places) e ∙ (queued_marked l origin c).0)) is.fed;
+  feeds = subst (λ f. AreFed role f streams) (sym (ap (λ (x : Ckpts). x.floor) e ∙ (queued_marked l origin c).1)) is.feeds;
 }
 
 -- nothing above a seqno
 alone_steady : (role : Role) (m : Ckpts) (at n : ℕ) (origin : Origin) → m ≡ ckpts_at at origin → n ≡ at → IsSteady role n m []
-alone_steady role m at n origin e z = subst (λ (x : Ckpts). IsSteady role n x []) (sym e) (record { high = sym z; fed = fed_none at at; few = none_few role })
+alone_steady role m at n origin e z = subst (λ (x : Ckpts). IsSteady role n x []) (sym e) (record { high = sym z; fed = fed_none at; feeds = feeds_none role at })
 
 pub rolled_steady : (role : Role) (at : ℕ) (l : Ckpts) (streams : List Stream) (m : Ckpts) (to n : ℕ) (origin : Origin) → IsSteady role at l streams → is_follower role ≡ true → m ≡ ckpts_at to origin → n ≡ to → IsSteady role n m streams
 rolled_steady role at l streams m to n origin is follows e z =
-    let none : streams ≡ [] = follows_none role streams follows is.few in
+    let none : streams ≡ [] = follows_none role l.floor streams follows is.feeds in
     subst (λ ss. IsSteady role n m ss) (sym none) (alone_steady role m to n origin e z)
 
 pub made_steady : (role : Role) (l : Ckpts) (streams : List Stream) (at n : ℕ) (origin : Origin) → l ≡ ckpts_at at origin → streams ≡ [] → n ≡ at → IsSteady role n l streams
@@ -170,28 +130,38 @@ may_open vb id ask e = by (is_active vb.role) (stream_at id vb.streams) e
     by true (Some s) e = cc
     by false o e = cc
 
-pub opened_steady : (role : Role) (at : ℕ) (l : Ckpts) (streams : List Stream) (id : ℕ) (s : Stream) (m : Ckpts) (ss : List Stream) → IsSteady role at l streams → is_active role ≡ true → 0 < id → stream_at id streams ≡ None → s.id ≡ id
-    → m ≡ record l { places = with_cursor l.places l.floor id s.place } → ss ≡ streams ++ s ∷ [] → IsSteady role at m ss
-opened_steady role at l streams id s m ss is active some none same e f =
+pub opened_steady : (role : Role) (at : ℕ) (l : Ckpts) (streams : List Stream) (s : Stream) (m : Ckpts) (ss : List Stream) → IsSteady role at l streams → is_active role ≡ true → 0 < s.id → stream_at s.id streams ≡ None → s.cursor ≡ nat_le l.floor s.place
+    → m ≡ record l { places = with_cursor l.places s } → ss ≡ streams ++ s ∷ [] → IsSteady role at m ss
+opened_steady role at l streams s m ss is active some none has e f =
     subst (λ xs. IsSteady role at m xs) (sym f) (subst (λ (x : Ckpts). IsSteady role at x (streams ++ s ∷ [])) (sym e) (record {
       high = is.high;
-      fed = fed_opened l.places l.floor streams id s is.fed (omega (arith, some)) none same;
-      few = any_few role (streams ++ s ∷ []) active;
+      fed = fed_opened l.places streams s is.fed (omega (arith, some)) none;
+      feeds = feeds_opened role l.floor streams s active is.feeds none (λ c. most_of l.floor s.place (sym has ∙ c));
     }))
 
-pub closed_steady : (role : Role) (at : ℕ) (l : Ckpts) (streams : List Stream) (m : Ckpts) (ss : List Stream) (id : ℕ) → IsSteady role at l streams → SameChanges l m → CursorsAreStreams m.places m.floor ss → ss ≡ without_stream id streams → IsSteady role at m ss
+pub closed_steady : (role : Role) (at : ℕ) (l : Ckpts) (streams : List Stream) (m : Ckpts) (ss : List Stream) (id : ℕ) → IsSteady role at l streams → SameChanges l m → CursorsAreStreams m.places ss → ss ≡ without_stream id streams → IsSteady role at m ss
 closed_steady role at l streams m ss id is e fed f = record {
   high = ap high_of e.rest ∙ is.high;
   fed = fed;
-  few = subst (MayFeed role) (sym f) (few_closed role id streams is.few);
+  feeds = subst (AreFed role m.floor) (sym f) (subst (λ n. AreFed role n (without_stream id streams)) (sym (ap (λ (x : Ckpts). x.floor) e.rest)) (feeds_closed role l.floor id streams is.feeds));
 }
 
-pub moved_steady : (role : Role) (at : ℕ) (l : Ckpts) (streams : List Stream) (id end : ℕ) (s : Stream) (m : Ckpts) (ss : List Stream) → IsSteady role at l streams → stream_at id streams ≡ Some s → l.floor ≤ end → m ≡ moved_cursor l id end → ss ≡ map (moved_on id end) streams → IsSteady role at m ss
-moved_steady role at l streams id end s m ss is there reach e f =
+pub moved_steady : (role : Role) (at : ℕ) (l : Ckpts) (streams : List Stream) (id end : ℕ) (s : Stream) (m : Ckpts) (ss : List Stream) → IsSteady role at l streams → stream_at id streams ≡ Some s → s.cursor ≡ true → s.place < end → m ≡ moved_cursor l id end → ss ≡ map (moved_on id end) streams → IsSteady role at m ss
+moved_steady role at l streams id end s m ss is there has above e f =
+    let reach : l.floor ≤ s.place = is.feeds.cursors id s there has in
     subst (λ xs. IsSteady role at m xs) (sym f) (subst (λ (x : Ckpts). IsSteady role at x (map (moved_on id end) streams)) (sym e) (record {
       high = is.high;
-      fed = fed_moved l.places l.floor streams id end s is.fed there reach;
-      few = few_moved role id end streams is.few;
+      fed = fed_moved l.places streams id end s is.fed there has;
+      feeds = feeds_moved role l.floor id end streams s is.feeds there (omega arith);
+    }))
+
+-- a stream has a cursor from now on
+pub given_steady : (role : Role) (at : ℕ) (l : Ckpts) (streams : List Stream) (id : ℕ) (s : Stream) (m : Ckpts) (ss : List Stream) → IsSteady role at l streams → stream_at id streams ≡ Some s → nat_le l.floor s.place ≡ true → m ≡ moved_cursor l id s.place → ss ≡ map (given_cursor id) streams → IsSteady role at m ss
+given_steady role at l streams id s m ss is there memory e f =
+    subst (λ xs. IsSteady role at m xs) (sym f) (subst (λ (x : Ckpts). IsSteady role at x (map (given_cursor id) streams)) (sym e) (record {
+      high = is.high;
+      fed = fed_given l.places streams id s is.fed there;
+      feeds = feeds_given role l.floor id streams s is.feeds there (most_of l.floor s.place memory);
     }))
 
 -- the cursor 0 moves on
@@ -199,7 +169,7 @@ pub flushed_steady : (role : Role) (at : ℕ) (l : Ckpts) (streams : List Stream
 flushed_steady role at l streams m n is e = subst (λ (x : Ckpts). IsSteady role at x streams) (sym e) (record {
   high = is.high;
   fed = record { cursors = λ q. is.fed.cursors q ∙ sym (same q); apart = is.fed.apart };
-  few = is.few;
+  feeds = is.feeds;
 })
   where
     same : (q : ℕ) → stream_place (finite.insert l.places 0 n) q ≡ stream_place l.places q
@@ -209,19 +179,17 @@ flushed_steady role at l streams m n is e = subst (λ (x : Ckpts). IsSteady role
         by true = refl
         by false = refl
 
--- the stream that is found has the number
-pub named : (id : ℕ) (streams : List Stream) (s : Stream) → stream_at id streams ≡ Some s → s.id ≡ id
-named id [] s e = cc
-named id (x ∷ xs) s e = by (x.id == id) refl e (named id xs s)
-  where
-    by : (b : Bool) → (x.id == id) ≡ b → cond b (Some x) (stream_at id xs) ≡ Some s → (stream_at id xs ≡ Some s → s.id ≡ id) → s.id ≡ id
-    by true f e ih = let k : x ≡ s = cc in sym (ap (λ (y : Stream). y.id) k) ∙ grind (arith, nat_tests, f)
-    by false f e ih = ih e
-
-pub took : (k : Kept) (id end : ℕ) (s : Stream) (l : Ckpts) (ss : List Stream) (reply : VbReply) → stream_at id k.rest.streams ≡ Some s → is_in_memory k.list.floor s ≡ true → stop_of k.list s.place (need_of s) s.sync ≡ Some end
+pub took : (k : Kept) (id end : ℕ) (s : Stream) (l : Ckpts) (ss : List Stream) (reply : VbReply) → stream_at id k.rest.streams ≡ Some s → s.cursor ≡ true → stop_of k.list s.place (need_of s) s.sync ≡ Some end
     → l ≡ moved_cursor k.list id end → ss ≡ map (moved_on id end) k.rest.streams → reply ≡ quiet_reply (answer.Taken (snapshot_of s (sent_items s (between s.place end (held_of k.list)))))
     → ◌≡◌ {A = Kept × VbReply} (record { rest = record k.rest { streams = ss }; list = l }, reply) (kept_take k id)
-took k id end s l ss reply there memory stop e f g =
+took k id end s l ss reply there has stop e f g =
     (λ i. (record { rest = record k.rest { streams = f i }; list = e i }, g i))
     ∙ ap (λ n. (record { rest = record k.rest { streams = map (moved_on n end) k.rest.streams }; list = moved_cursor k.list n end }, quiet_reply (answer.Taken (snapshot_of s (sent_items s (between s.place end (held_of k.list))))))) (sym (named id k.rest.streams s there))
-    ∙ sym (ap (λ o. kept_take_from o k) there ∙ ap (λ b. kept_take_to (if b then stop_of k.list s.place (need_of s) s.sync else None) s k) memory ∙ ap (λ o. kept_take_to o s k) stop)
+    ∙ sym (ap (λ o. kept_take_from o k) there ∙ ap (λ b. kept_take_to (if b then stop_of k.list s.place (need_of s) s.sync else None) s k) has ∙ ap (λ o. kept_take_to o s k) stop)
+
+pub placed : (k : Kept) (id : ℕ) (s : Stream) (ss : List Stream) (reply : VbReply) → stream_at id k.rest.streams ≡ Some s → s.cursor ≡ false → is_in_memory (floored k) s.place ≡ true → ss ≡ map (given_cursor id) k.rest.streams → reply ≡ place_reply Memory
+    → ◌≡◌ {A = Plain × VbReply} (record k.rest { streams = ss }, reply) (kept_place k id)
+placed k id s ss reply there has memory f g =
+    (λ i. (record k.rest { streams = f i }, g i))
+    ∙ ap (λ n. (record k.rest { streams = map (given_cursor n) k.rest.streams }, place_reply Memory)) (sym (named id k.rest.streams s there))
+    ∙ sym (ap (λ o. restreamed (place_from o) k) there ∙ ap (λ b. restreamed (placed_by b (is_in_memory (floored k) s.place) s) k) has ∙ ap (λ b. restreamed (placed_by false b s) k) memory)

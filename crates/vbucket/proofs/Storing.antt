@@ -88,6 +88,7 @@ grown_sound vb c cas ws s on next free more counted fits b = record {
   based = s.based;
   saved = s.saved;
   counted = record { waits = subst (λ image. AreBacked vb.role image c.seq ws) (sym (image_pushed vb c)) b; links = s.links };
+  feeds = s.feeds;
 }
 
 -- a write is not refused where nothing waits at its key

@@ -18,7 +18,7 @@ use Rattle.vb_calls.specs.Plain.{Plain, plain_step}
 use Rattle.vb_calls.specs.Roles.{ending_reply, in_role, is_heir, is_role, own_refusal, owned, yielded}
 use Rattle.vb_calls.specs.Spans.{all_spans, with_seal}
 use Rattle.vb_calls.specs.State.{is_active, quiet_reply, refusal_reply}
-use Rattle.vb_calls.specs.Streams.{end_span, is_in_memory, items_to, place_reply, snapshot_of, stream_at, take_from, take_to}
+use Rattle.vb_calls.specs.Streams.{end_span, is_in_memory, items_to, place_from, placed_by, snapshot_of, stream_at, take_from, take_to}
 use Rattle.durability.specs.Outstanding.{no_acks}
 use Rattle.durability.proofs.Counts.{none_acked}
 use Rattle.vbucket.specs.DurableLaws.{GivesUpAll}
@@ -27,12 +27,12 @@ use Rattle.vbucket.specs.Takeovers.{HeirsOwn, Inherits, OwnsAs, PendsAs, PendsWa
 use Rattle.vbucket.proofs.Asks.{is_open, not_open, not_role, role_of}
 use Rattle.vbucket.proofs.Backing.{none_idle}
 use Rattle.vbucket.proofs.Committing.{commits}
+use Rattle.vbucket.proofs.Feeding.{named}
 use Rattle.vbucket.proofs.GivingUp.{all_given, leaves, turned}
 use Rattle.vbucket.proofs.Receiving.{follower_of, not_follower}
 use Rattle.vbucket.proofs.RowIs.{inheriting}
 use Rattle.vbucket.proofs.Settling.{settles}
 use Rattle.vbucket.proofs.Soundness.{inherited_sound}
-use Rattle.vbucket.proofs.Steadying.{named}
 use Rattle.vbucket.proofs.Turns.{hands_over, turned_in, turned_risen}
 
 -- a vBucket that is given up
@@ -45,14 +45,22 @@ found : (id : ℕ) (s : Stream) → s.id ≡ id → stream_at id (s ∷ []) ≡ 
 found id s e = let t : (s.id == id) ≡ true = grind (arith, nat_tests, e) in ap (λ b. cond b (Some s) None) t
 
 places_same : (vb : Plain) (id : ℕ) (s : Stream) → stream_at id vb.streams ≡ Some s → (plain_step (yielded (Some s) vb).0 (Place id)).1 ≡ (plain_step vb (Place id)).1
-places_same vb id s at = ap (place_reply vb.floor) (found id s (named id vb.streams s at) ∙ sym at)
+places_same vb id s at = ap (λ o. (place_from o after).1) (found id s (named id vb.streams s at)) ∙ said s.cursor (is_in_memory vb s.place) ∙ sym (ap (λ o. (place_from o vb).1) at)
+  where
+    after : Plain
+    after = (yielded (Some s) vb).0
+
+    said : (has there : Bool) → (placed_by has there s after).1 ≡ (placed_by has there s vb).1
+    said true there = refl
+    said false true = refl
+    said false false = refl
 
 takes_same : (vb : Plain) (id : ℕ) (s : Stream) → stream_at id vb.streams ≡ Some s → (plain_step (yielded (Some s) vb).0 (Take id)).1 ≡ (plain_step vb (Take id)).1
 takes_same vb id s at =
     ap (λ o. (take_from o after).1) (found id s (named id vb.streams s at))
-    ∙ told after (if is_in_memory vb.floor s then end_span s (all_spans after.spans) vb.held else None) refl
-    ∙ ap (λ ws. said ws (if is_in_memory vb.floor s then end_span s ws vb.held else None)) (append-nil (all_spans vb.spans))
-    ∙ sym (told vb (if is_in_memory vb.floor s then end_span s (all_spans vb.spans) vb.held else None) refl)
+    ∙ told after (if s.cursor then end_span s (all_spans after.spans) vb.held else None) refl
+    ∙ ap (λ ws. said ws (if s.cursor then end_span s ws vb.held else None)) (append-nil (all_spans vb.spans))
+    ∙ sym (told vb (if s.cursor then end_span s (all_spans vb.spans) vb.held else None) refl)
     ∙ sym (ap (λ o. (take_from o vb).1) at)
   where
     after : Plain

@@ -16,7 +16,7 @@ use Rattle.vb_calls.specs.declared.stream.Stream.{Stream}
 use Rattle.vb_calls.specs.declared.span.Span.{Span}
 use Rattle.vb_calls.specs.Plain.{Plain}
 use Rattle.vb_calls.specs.Spans.{all_spans, stretch, live_in, is_whole}
-use Rattle.vb_calls.specs.Streams.{is_in_memory, stream_at, is_seen, is_plain_next, sent_as, span_items, items_to, has_any, may_end, end_span, start_of, need_of, snapshot_of, moved_on, take_to, take_from}
+use Rattle.vb_calls.specs.Streams.{stream_at, is_seen, is_plain_next, sent_as, span_items, items_to, has_any, may_end, end_span, start_of, need_of, snapshot_of, moved_on, take_to, take_from}
 use Rattle.vbucket.specs.Laws.{Sound, Follow, IsSpan, AllSpans}
 use Rattle.vbucket.specs.Takes.{shown_by, IsSentFor, IsSnapshot, TakesSnapshots}
 use Rattle.vbucket.proofs.Parts.{from_zero, among_most, between_of, between_tested, below_of, below_tested, most_of, both, conj, filtered, live_rises, bounded, in_filter, kept_in_filter, in_live, in_map, mapped_in, last_filtered, split, Among, found, stands_in, in_flat, in_flat_of, flat_rises}
@@ -187,7 +187,7 @@ taken_from : (vb : Plain) (id : ℕ) (snapshot : Snapshot) (o : Option Stream) �
     → (s : Stream) × (end : ℕ) × (o ≡ Some s) × IsSnapshot vb s end snapshot × ((take_from o vb).0 ≡ record vb { streams = map (moved_on id end) vb.streams })
 taken_from vb id snapshot None sound e t = cc
 taken_from vb id snapshot (Some s) sound e t =
-    let k = by (is_in_memory vb.floor s) t in
+    let k = by s.cursor t in
     (s, k.0, refl, k.1, k.2 ∙ ap (λ n. record vb { streams = map (moved_on n k.0) vb.streams }) (stream_id id vb.streams s e))
   where
     end : Bool → Option Span

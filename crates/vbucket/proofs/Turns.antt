@@ -29,7 +29,7 @@ use Rattle.vbucket.proofs.Receiving.{never}
 use Rattle.vbucket.proofs.Closing.{are_others}
 use Rattle.vbucket.proofs.RowIs.{RowIs, StartIs, Expires, Inherits, Turns, inheriting, leading, row_is}
 use Rattle.vbucket.proofs.Settling.{expires, settles}
-use Rattle.vbucket.proofs.Steadying.{named}
+use Rattle.vbucket.proofs.Feeding.{named}
 
 -- calls that leave the role
 

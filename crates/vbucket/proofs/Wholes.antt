@@ -22,6 +22,7 @@ use Rattle.vbucket.proofs.Backing.{backed_turned, linked_new}
 use Rattle.vbucket.specs.Laws.{Sound, Follow, IsSpan}
 use Rattle.vbucket.specs.Wholes.{BatchesAreWhole, LoadsSound}
 use Rattle.vbucket.proofs.Covering.{slot_live}
+use Rattle.vbucket.proofs.Fed.{feeds_none}
 use Rattle.vbucket.proofs.Parts.{Among, below_of, between_of, bounded, kept_in_filter, filtered, found, from_zero, in_filter, in_live, last_filtered, live_rises, below_tested, split}
 use Rattle.vbucket.proofs.Soundness.{idle_own}
 use Rattle.vbucket.proofs.Spanned.{spanned_none}
@@ -119,4 +120,5 @@ loads_sound node old log p cas image low high capped small pends seqs apart = re
   based = record { low = seqs; apart = apart };
   saved = omega arith;
   counted = record { waits = backed_turned (loaded_role old) image p.at (loaded_idle old); links = linked_new (loaded_role old) };
+  feeds = feeds_none (loaded_role old) p.at;
 }

@@ -11,6 +11,7 @@ use Rattle.vb_calls.specs.declared.calls.VbAnswer.TheVariants.{Asked}
 use Rattle.vb_calls.specs.declared.calls.VbReply.{VbReply}
 use Rattle.vb_calls.specs.declared.stream.Stream.{Stream}
 use Rattle.vb_calls.specs.Plain.{Plain, plain_step}
+use Rattle.vb_calls.specs.Streams.{memory_from}
 use Rattle.vbucket.specs.Laws.{is_denial}
 
 -- whatever is said, the answer has the failover log and the last seqno; and none is granted under the number 0
@@ -39,14 +40,15 @@ AnswersWith vb after said = after.1.answer ≡ Asked said vb.log vb.position.at
 abbrev pub IsHeard : Plain → ℕ → StreamAsk → Type 0
 IsHeard vb id ask = (vb.role ≡ Active) × (IsTaken vb id → ⊥) × IsRanged ask
 
--- 0x07 unless the vBucket is active, then 0x02 for a number that is taken, then 0x22 for a range that is none; else the failover log decides, and where it lets the request continue one stream more is open, at the request's start
+-- 0x07 unless the vBucket is active, then 0x02 for a number that is taken, then 0x22 for a range that is none; else the failover log decides, and where it lets the request continue one stream more is open, at the request's start; it has a cursor exactly where that is served from memory
 pub record OpensAs (vb : Plain) (id : ℕ) (ask : StreamAsk) (sync : Bool) (after : Plain × VbReply) : Type 0 where
   pub foreign : AnswersWith vb after (Refuse 7) ↔ (vb.role ≢ Active)
   pub taken : AnswersWith vb after (Refuse 2) ↔ ((vb.role ≡ Active) × IsTaken vb id)
   pub outside : AnswersWith vb after (Refuse 34) ↔ ((vb.role ≡ Active) × (IsTaken vb id → ⊥) × (IsRanged ask → ⊥))
   pub back : (to : ℕ) → AnswersWith vb after (RollTo to) ↔ (IsHeard vb id ask × (rule vb.log vb.position.at ask ≡ Roll to))
   pub go : AnswersWith vb after Go ↔ (IsHeard vb id ask × (rule vb.log vb.position.at ask ≡ Continue))
-  pub opens : AnswersWith vb after Go → after.0 ≡ record vb { streams = vb.streams ++ record { id = id; ask = ask; sync = sync; place = ask.start; taken = false } ∷ [] }
+  pub opens : AnswersWith vb after Go
+      → (c : Bool) × (after.0 ≡ record vb { streams = vb.streams ++ record { id = id; ask = ask; sync = sync; place = ask.start; cursor = c; taken = false } ∷ [] }) × ((c ≡ true) ↔ (memory_from vb ≤ ask.start))
 
 -- each request is answered in this order
 abbrev pub OpensExactly : Type 0

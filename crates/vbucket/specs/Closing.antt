@@ -1,12 +1,12 @@
 -- what closing a stream comes to, and where a stream's changes come from
-use Rattle.std.specs.Prelude.{◌≡◌, ◌≢◌, ◌↔◌, ◌⊎◌, ℕ, ◌<◌, ◌≤◌, true, false, List, [], ◌∷◌, Some}
+use Rattle.std.specs.Prelude.{◌≡◌, ◌≢◌, ◌↔◌, ◌⊎◌, ℕ, ◌<◌, ◌≤◌, ◌==◌, true, false, if◌then◌else◌, List, [], ◌∷◌, map, Some}
 use Rattle.vb_types.specs.declared.stream.Place.TheVariants.{Memory, WaitSaved}
 use Rattle.vb_calls.specs.declared.calls.VbCall.TheVariants.{CloseStream, Place}
 use Rattle.vb_calls.specs.declared.calls.VbAnswer.TheVariants as answer
 use Rattle.vb_calls.specs.declared.calls.VbReply.{VbReply}
 use Rattle.vb_calls.specs.declared.stream.Stream.{Stream}
 use Rattle.vb_calls.specs.Plain.{Plain, plain_step}
-use Rattle.vb_calls.specs.Streams.{stream_at}
+use Rattle.vb_calls.specs.Streams.{memory_from, stream_at}
 use Rattle.vbucket.specs.Asks.{IsOpen}
 
 -- the streams of the first list that have another number than id, in their order
@@ -25,12 +25,18 @@ pub record ClosesAs (vb : Plain) (id : ℕ) (after : Plain × VbReply) : Type 0 
 abbrev pub ClosesExactly : Type 0
 ClosesExactly = (vb : Plain) (id : ℕ) → ClosesAs vb id (plain_step vb (CloseStream id))
 
--- an open stream's changes come from memory where it stands at the floor or above, and below it they wait; where no such stream is open that is said
+-- a stream with a cursor, if it is the one of this number
+abbrev pub with_its : ℕ → Stream → Stream
+with_its id s = if s.id == id then record s { cursor = true } else s
+
+-- an open stream's changes come from memory where it has a cursor, which changes nothing, and where it has none and stands where memory serves: it has one then, at its place. Any other waits, and nothing changes; where no such stream is open that is said
 pub record PlacesAs (vb : Plain) (id : ℕ) (after : Plain × VbReply) : Type 0 where
-  pub stays : after.0 ≡ vb
-  pub memory : (after.1.answer ≡ answer.Placed Memory) ↔ ((s : Stream) × (stream_at id vb.streams ≡ Some s) × (vb.floor ≤ s.place))
-  pub waits : (after.1.answer ≡ answer.Placed WaitSaved) ↔ ((s : Stream) × (stream_at id vb.streams ≡ Some s) × (s.place < vb.floor))
   pub absent : (after.1.answer ≡ answer.Absent) ↔ (IsOpen id vb.streams → ⊥)
+  pub memory : (after.1.answer ≡ answer.Placed Memory) ↔ ((s : Stream) × (stream_at id vb.streams ≡ Some s) × ((s.cursor ≡ true) ⊎ (memory_from vb ≤ s.place)))
+  pub waits : (after.1.answer ≡ answer.Placed WaitSaved) ↔ ((s : Stream) × (stream_at id vb.streams ≡ Some s) × (s.cursor ≡ false) × (s.place < memory_from vb))
+  pub had : (s : Stream) → stream_at id vb.streams ≡ Some s → s.cursor ≡ true → after.0 ≡ vb
+  pub made : (s : Stream) → stream_at id vb.streams ≡ Some s → s.cursor ≡ false → memory_from vb ≤ s.place → after.0 ≡ record vb { streams = map (with_its id) vb.streams }
+  pub still : after.1.answer ≢ answer.Placed Memory → after.0 ≡ vb
 
 -- each stream's place is told so
 abbrev pub PlacesExactly : Type 0

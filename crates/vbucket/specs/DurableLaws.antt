@@ -183,6 +183,7 @@ IsQuiet (call.OpenStream id ask sync) = Unit {0}
 IsQuiet (call.Place id) = Unit {0}
 IsQuiet (call.Take id) = Unit {0}
 IsQuiet (call.CloseStream id) = Unit {0}
+IsQuiet (call.DropCursor id) = Unit {0}
 IsQuiet call.Due = Unit {0}
 IsQuiet call.Ask = Unit {0}
 IsQuiet (call.Adopt log) = Unit {0}
@@ -190,6 +191,7 @@ IsQuiet (call.Marker start end) = Unit {0}
 IsQuiet (call.Receive change) = Unit {0}
 IsQuiet (call.RollTo at image cas) = Unit {0}
 IsQuiet call.Seal = Unit {0}
+IsQuiet call.Trim = Unit {0}
 IsQuiet call.FlushTake = Unit {0}
 IsQuiet call.Stat = Unit {0}
 IsQuiet call.Log = Unit {0}
@@ -214,10 +216,10 @@ pub record IsDue (vb : Plain) (n : ℕ) : Type 0 where
   pub thirds : ThirdsAreSaved vb n
   pub greatest : (key : List ℕ) (p : Pend) → pending_of vb key ≡ Some p → IsComplete vb p.seq → ThirdsAreSaved vb p.seq → p.seq ≤ n
 
--- NotMyVbucket unless the vBucket follows, else what it may acknowledge; nothing changes
+-- NotMyVbucket unless the vBucket follows, else what it may acknowledge, with what it counts as saved; nothing changes
 pub record DuesAs (vb : Plain) (after : Plain × VbReply) : Type 0 where
   pub foreign : (after.1.answer ≡ answer.Status status.NotMyVbucket) ↔ (IsFollower vb.role → ⊥)
-  pub tells : IsFollower vb.role → (n : ℕ) × (after.1.answer ≡ answer.Num n) × IsDue vb n
+  pub tells : IsFollower vb.role → (n : ℕ) × (after.1.answer ≡ answer.Dues n vb.saved) × IsDue vb n
   pub stays : after.0 ≡ vb
 
 abbrev pub DuesExactly : Type 0

@@ -8,6 +8,7 @@ use Rattle.vb_types.specs.declared.status.Status.TheVariants as status
 use Rattle.vb_types.specs.declared.write.Write.{Write}
 use Rattle.vb_types.specs.declared.journal.Batch.{Batch}
 use Rattle.vb_types.specs.declared.position.Position.{Position}
+use Rattle.vb_types.specs.declared.stream.StreamAsk.{StreamAsk}
 use Rattle.vb_types.specs.Images.{Picture, applied}
 use Rattle.branch_model.specs.Logs.{kept_to}
 use Rattle.vb_calls.specs.declared.calls.VbAnswer.TheVariants as answer
@@ -18,9 +19,10 @@ use Rattle.vb_calls.specs.declared.stream.Stream.{Stream}
 use Rattle.vb_calls.specs.State.{Plain, complete_position, newest_branch, pending_of, quiet_reply, refusal_reply}
 use Rattle.vb_calls.specs.Following.{cas_of, completed_act, is_follower, is_next}
 use Rattle.vb_calls.specs.Spans.{all_spans}
-use Rattle.vb_calls.specs.Streams.{is_in_memory, is_plain_next, is_seen, moved_on, need_of, place_reply, sent_as, snapshot_of, stream_at}
+use Rattle.vb_calls.specs.Streams.{is_plain_next, is_seen, moved_on, need_of, open_row, place_row, sent_as, snapshot_of, stream_at}
 use Rattle.vb_calls.specs.Writes.{new_cas, store_refusal, write_change}
 use Rattle.cursor_set.specs.Cursors.{place_of}
+use Rattle.ckpt_list.specs.Trims.{trimmed}
 use Rattle.ckpt_list.specs.Lists.{Ckpts, ckpts_at, between, held_of, moved_cursor, queued, sealed_list, spans_of, stop_of, window_of}
 
 -- all but the changes, their spans, and where these begin and were taken to: its base is what all of them leave; and the checkpoints with the changes that live, which tell the rest
@@ -84,9 +86,21 @@ kept_receive k c =
     if is_follower k.rest.role then (if is_next k.rest.position c.seq then kept_receive_as (completed_act (pending_of k.rest c.key) c.act) k c else (k, refusal_reply status.Erange))
     else (k, refusal_reply status.NotMyVbucket)
 
+-- all but the changes and their spans, with the floor of the list
+abbrev pub floored : Kept → Plain
+floored k = record k.rest { floor = k.list.floor }
+
+-- what a row that changes the streams alone makes of them, and its reply
+abbrev pub restreamed : (Plain → Plain × VbReply) → Kept → Plain × VbReply
+restreamed row k = (record k.rest { streams = (row (floored k)).0.streams }, (row (floored k)).1)
+
+-- a request for a stream
+abbrev pub kept_open : Kept → ℕ → StreamAsk → Bool → Plain × VbReply
+kept_open k id ask sync = restreamed (λ vb. open_row vb id ask sync) k
+
 -- where a stream's changes come from, if it is open
-abbrev pub kept_place : Kept → ℕ → VbReply
-kept_place k id = place_reply k.list.floor (stream_at id k.rest.streams)
+abbrev pub kept_place : Kept → ℕ → Plain × VbReply
+kept_place k id = restreamed (λ vb. place_row vb id) k
 
 -- what a stream is sent of the changes that its cursor is given
 abbrev pub sent_items : Stream → List Change → List Change
@@ -103,7 +117,7 @@ kept_take_to (Some end) s k = (
 -- a take by a stream, if it is open; one that has no cursor is given nothing
 abbrev pub kept_take_from : Option Stream → Kept → Kept × VbReply
 kept_take_from None k = (k, quiet_reply answer.Absent)
-kept_take_from (Some s) k = kept_take_to (if is_in_memory k.list.floor s then stop_of k.list s.place (need_of s) s.sync else None) s k
+kept_take_from (Some s) k = kept_take_to (if s.cursor then stop_of k.list s.place (need_of s) s.sync else None) s k
 
 -- a stream's next snapshot
 abbrev pub kept_take : Kept → ℕ → Kept × VbReply
@@ -127,12 +141,16 @@ kept_flush_from (Some place) k = kept_flush_to (window_of k.list place) place k
 abbrev pub kept_flush : Kept → Kept × VbReply
 kept_flush k = kept_flush_from (place_of k.list.places 0) k
 
+-- without the sealed checkpoints that are needed no more, and their number
+abbrev pub kept_trim : Kept → Kept × VbReply
+kept_trim k = (record k { list = (trimmed k.list k.rest.saved).0 }, quiet_reply (answer.Num (trimmed k.list k.rest.saved).1))
+
 -- numbers
 abbrev pub kept_stat : Kept → VbReply
 kept_stat k = quiet_reply (answer.Stat
     (length (all_spans (spans_of k.list)))
     (length (held_of k.list))
-    (1 + length (filter (is_in_memory k.list.floor) k.rest.streams))
+    (1 + length (filter (λ s. s.cursor) k.rest.streams))
     k.rest.saved
     k.rest.position.at)
 

@@ -1,5 +1,6 @@
 -- what holds of every vBucket, and what a write means to the reads after it
-use Rattle.std.specs.Prelude.{◌≡◌, ◌≢◌, ◌↔◌, ◌⊎◌, ℕ, Bool, true, false, ◌+◌, ◌-◌, ◌*◌, ◌/◌, ◌^◌, ◌<◌, ◌≤◌, List, [], ◌∷◌, ◌++◌, length, min, max, Option, Some, None}
+use Rattle.std.specs.Prelude.{◌≡◌, ◌≢◌, ◌↔◌, ◌⊎◌, ℕ, Bool, true, false, ◌+◌, ◌-◌, ◌*◌, ◌/◌, ◌^◌, ◌<◌, ◌≤◌, List, [], ◌∷◌, ◌++◌, length, min, max, nat_lt, Option, Some, None}
+use Rattle.std.specs.List.{filter, fold}
 use Rattle.std.specs.FinMap as finite
 use Rattle.vb_types.specs.declared.doc.Doc.{Doc}
 use Rattle.vb_types.specs.declared.change.Act.TheVariants as act
@@ -7,7 +8,7 @@ use Rattle.vb_types.specs.declared.change.Change.{Change}
 use Rattle.vb_types.specs.declared.change.Pend.{Pend}
 use Rattle.vb_types.specs.declared.stream.AskAnswer.{AskAnswer}
 use Rattle.vb_types.specs.declared.stream.AskAnswer.TheVariants as ask_answer
-use Rattle.vb_types.specs.Images.{Picture}
+use Rattle.vb_types.specs.Images.{Picture, applied}
 use Rattle.vb_types.specs.declared.role.Role.{Role}
 use Rattle.vb_types.specs.declared.role.Role.TheVariants as role
 use Rattle.vb_types.specs.declared.role.LogEntry.{LogEntry}
@@ -17,7 +18,7 @@ use Rattle.vb_types.specs.declared.status.Status.TheVariants as status
 use Rattle.vb_types.specs.declared.write.Op.{Op}
 use Rattle.vb_types.specs.declared.write.Op.TheVariants as op
 use Rattle.vb_types.specs.declared.write.Write.{Write}
-use Rattle.vb_types.specs.Histories.{Rises, IsIn}
+use Rattle.vb_types.specs.Histories.{Rises, IsIn, upto}
 use Rattle.durability.specs.declared.waiting.Waiting.{Waiting}
 use Rattle.durability.specs.Chains.{Members, differ, is_chain, named}
 use Rattle.durability.specs.Laws.{Waits}
@@ -32,6 +33,8 @@ use Rattle.vb_calls.specs.declared.calls.VbReply.{VbReply}
 use Rattle.vb_calls.specs.Plain.{Plain, new_vb, plain_step}
 use Rattle.vb_calls.specs.State.{complete_position, doc_at, image_in, newest_branch, pending_of}
 use Rattle.vb_calls.specs.Following.{cas_of}
+use Rattle.vb_calls.specs.declared.stream.Stream.{Stream}
+use Rattle.vb_calls.specs.Streams.{stream_at}
 use Rattle.vb_calls.specs.declared.span.Span.{Span}
 use Rattle.vb_calls.specs.declared.span.Origin.{Origin}
 use Rattle.vb_calls.specs.declared.span.Origin.TheVariants.{Own, Received}
@@ -176,7 +179,19 @@ pub record AreCounted (r : Role) (image : Picture) (at : ℕ) (waiting : List Wa
   pub waits : AreBacked r image at waiting
   pub links : AreLinked r others acks
 
--- seqnos rise above the floor and end at 2 ^ 48, the position lies in its snapshot, no CAS is above the last one, each change stands in one span, which is tidy and within the limits, and what was taken to be written down ends between the floor and the last seqno; the prepares that waited at the floor have seqnos up to there, no two the same, and the outstanding ones are among those that wait
+-- an active vBucket feeds any streams, and a dead one at most the one that it was given up for
+abbrev pub MayFeed : Role → List Stream → Type 0
+MayFeed role.Active streams = Unit {0}
+MayFeed role.Replica streams = streams ≡ []
+MayFeed role.Pending streams = streams ≡ []
+MayFeed role.Dead streams = length streams ≤ 1
+
+-- the streams are such as a vBucket in this role may have, and one that has a cursor stands at the floor or above
+pub record AreFed (r : Role) (floor : ℕ) (streams : List Stream) : Type 0 where
+  pub few : MayFeed r streams
+  pub cursors : (id : ℕ) (s : Stream) → stream_at id streams ≡ Some s → s.cursor ≡ true → floor ≤ s.place
+
+-- seqnos rise above the floor and end at 2 ^ 48, the position lies in its snapshot, no CAS is above the last one, each change stands in one span, which is tidy and within the limits, and what was taken to be written down ends between the floor and the last seqno; the prepares that waited at the floor have seqnos up to there, no two the same, and the outstanding ones are among those that wait; and a stream that has a cursor stands at the floor or above
 pub record Sound (vb : Plain) : Type 0 where
   pub spanned : AreSpanned vb.role vb.floor vb.position.at vb.held vb.spans vb.flushed
   pub open spanned use *
@@ -189,6 +204,7 @@ pub record Sound (vb : Plain) : Type 0 where
   pub saved : vb.floor ≤ vb.saved
   pub counted : AreCounted vb.role (image_in vb) vb.position.at vb.waiting vb.others vb.acks
   pub open counted use *
+  pub feeds : AreFed vb.role vb.floor vb.streams
 
 -- a clock shows a number of 64 bits, a CAS is one, and what a vBucket goes back to has none above the one that it is told, and no prepare above its seqno, nor two of one seqno; a chain is one
 abbrev pub IsTimely : VbCall → Type 0
@@ -205,6 +221,7 @@ IsTimely (call.OpenStream id ask sync) = Unit {0}
 IsTimely (call.Place id) = Unit {0}
 IsTimely (call.Take id) = Unit {0}
 IsTimely (call.CloseStream id) = Unit {0}
+IsTimely (call.DropCursor id) = Unit {0}
 IsTimely call.Ask = Unit {0}
 IsTimely (call.Adopt log) = Unit {0}
 IsTimely (call.Marker start end) = Unit {0}
@@ -215,6 +232,7 @@ IsTimely call.Pend = Unit {0}
 IsTimely call.Own = Unit {0}
 IsTimely (call.Yield id) = Unit {0}
 IsTimely call.Seal = Unit {0}
+IsTimely call.Trim = Unit {0}
 IsTimely call.FlushTake = Unit {0}
 IsTimely call.Stat = Unit {0}
 IsTimely call.Log = Unit {0}
@@ -248,6 +266,7 @@ is_refusal answer.Nothing = true
 is_refusal answer.Done = false
 is_refusal (answer.Flag did) = false
 is_refusal (answer.Num seq) = false
+is_refusal (answer.Dues seq saved) = false
 is_refusal (answer.Branch uuid parent fork high) = false
 is_refusal (answer.Found doc) = false
 is_refusal (answer.Stored uuid seq cas) = false
@@ -279,12 +298,19 @@ pub record IsRolled (vb : Plain) (at : ℕ) (image : Picture) (cas : ℕ) (after
   pub stays : after
       ≡ record vb { base = after.base; held = after.held; position = after.position; log = after.log; last_cas = after.last_cas; spans = after.spans; floor = after.floor; saved = after.saved; flushed = after.flushed }
 
--- what a call does to the changes that are held: a rollback that is made leaves none, and one that is not leaves all; any other call appends those of its reply, above all that were held, and leaves what stood before them
+-- the changes up to a seqno are held no more, and what they leave stands before the others; all else stays but spans and floor
+pub record IsFolded (vb : Plain) (to : ℕ) (after : Plain) : Type 0 where
+  pub base : after.base ≡ fold applied vb.base (upto vb.held to)
+  pub held : after.held ≡ filter (λ c. nat_lt to c.seq) vb.held
+  pub stays : after ≡ record vb { base = after.base; held = after.held; spans = after.spans; floor = after.floor }
+
+-- what a call does to the changes that are held: a rollback that is made leaves none, and one that is not leaves all; a trim folds those up to its floor; any other call appends those of its reply, above all that were held, and leaves what stood before them
 abbrev pub Holds : VbCall → Plain → Plain × VbReply → Type 0
 Holds (RollTo at image cas) vb after = (after.1.changes ≡ []) × ((after.0 ≡ vb) ⊎ ((after.1.answer ≡ answer.Num at) × IsRolled vb at image cas after.0))
+Holds call.Trim vb after = (after.1.changes ≡ []) × ((after.0 ≡ vb) ⊎ IsFolded vb after.0.floor after.0)
 Holds call vb after = (after.0.base ≡ vb.base) × (after.0.held ≡ vb.held ++ after.1.changes) × Rises vb.position.at after.0.position.at after.1.changes
 
--- the changes of a reply are those that the call appended, unless it is a rollback
+-- the changes of a reply are those that the call appended, unless it is a rollback or a trim
 abbrev pub HeldGrows : Type 0
 HeldGrows = (vb : Plain) (call : VbCall) → Holds call vb (plain_step vb call)
 

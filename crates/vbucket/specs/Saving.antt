@@ -1,5 +1,5 @@
 -- what of a vBucket is written down, what it goes back to, and its numbers
-use Rattle.std.specs.Prelude.{◌≡◌, ◌≢◌, ◌↔◌, ◌⊎◌, ℕ, ◌+◌, ◌^◌, ◌<◌, ◌≤◌, List, [], ◌∷◌, length, Some}
+use Rattle.std.specs.Prelude.{◌≡◌, ◌≢◌, ◌↔◌, ◌⊎◌, false, true, ℕ, ◌+◌, ◌^◌, ◌<◌, ◌≤◌, List, [], ◌∷◌, length, Some}
 use Rattle.vb_types.specs.declared.change.Act.TheVariants.{Set}
 use Rattle.vb_types.specs.declared.change.Change.{Change}
 use Rattle.vb_types.specs.declared.doc.Doc.{Doc}
@@ -112,17 +112,17 @@ abbrev pub lives : List Change → List Span → ℕ
 lives h [] = 0
 lives h (w ∷ ws) = live_count w h + lives h ws
 
--- there are n cursors: one, and one for each stream at the floor or above
-abbrev pub AreCursors : ℕ → List Stream → ℕ → Type 0
-AreCursors floor [] n = n ≡ 1
-AreCursors floor (s ∷ ss) n = ((floor ≤ s.place) × ((m : ℕ) × (n ≡ m + 1) × AreCursors floor ss m)) ⊎ ((s.place < floor) × AreCursors floor ss n)
+-- there are n cursors: one, and those of the streams that have one
+abbrev pub AreCursors : List Stream → ℕ → Type 0
+AreCursors [] n = n ≡ 1
+AreCursors (s ∷ ss) n = ((s.cursor ≡ true) × ((m : ℕ) × (n ≡ m + 1) × AreCursors ss m)) ⊎ ((s.cursor ≡ false) × AreCursors ss n)
 
 -- the numbers that a vBucket tells
 pub record CountsAs (vb : Plain) (after : Plain × VbReply) (windows items cursors : ℕ) : Type 0 where
   pub told : after.1.answer ≡ answer.Stat windows items cursors vb.saved vb.position.at
   pub windows_counted : windows ≡ length (all_spans vb.spans)
   pub of_lives : items ≡ lives vb.held (all_spans vb.spans)
-  pub of_cursors : AreCursors vb.floor vb.streams cursors
+  pub of_cursors : AreCursors vb.streams cursors
   pub stays : after.0 ≡ vb
 
 -- each vBucket

@@ -73,9 +73,9 @@ abbrev pub CutsNone : ℕ → List Span → Type 0
 CutsNone n [] = Unit {0}
 CutsNone n (w ∷ ws) = ((ss se : ℕ) → w.origin ≡ Received ss se → ss < n → w.last ≤ n) × CutsNone n ws
 
--- a stream's next snapshot may end at the end n of a span, above its place, which is not below the floor: it cuts no received snapshot, a first one reaches what the request needs, and there is a change for it
+-- a stream's next snapshot may end at the end n of a span, above its place, where it has a cursor: it cuts no received snapshot, a first one reaches what the request needs, and there is a change for it
 pub record MayEnd (vb : Plain) (s : Stream) (n : ℕ) : Type 0 where
-  pub memory : vb.floor ≤ s.place
+  pub cursor : s.cursor ≡ true
   pub above : s.place < n
   pub span : EndsOne n (all_spans vb.spans)
   pub whole : CutsNone n (all_spans vb.spans)

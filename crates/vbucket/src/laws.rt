@@ -2,7 +2,11 @@
 ghost use Rattle.vbucket.specs.Laws.{StartsSound, StaysSound, RefusalsKeep, ForeignExactly, FullExactly, AgainExactly, PendingExactly, PresentExactly, AbsentExactly, ReadsExactly, WritesAreRead, HeldGrows, CasNeverFalls};
 ghost use Rattle.vbucket.specs.Adopting.{AnswerableExactly};
 ghost use Rattle.vbucket.specs.Asks.{AnswersHaveLog, OpensExactly};
+ghost use Rattle.std.specs.Prelude.{◌≡◌};
+ghost use Rattle.vb_calls.specs.{Plain.{Plain}, Streams.{memory_from}};
 ghost use Rattle.vbucket.specs.Closing.{ClosesExactly, PlacesExactly};
+ghost use Rattle.vbucket.specs.Cursors.{CursorsExactly};
+ghost use Rattle.vbucket.specs.Memory.{DropsExactly, GivesUpSoundly, TrimsExactly};
 ghost use Rattle.vbucket.specs.Filling.{LivesExactly, WeighsInNumbers, OwnFills, ReceivedFills, SealsExactly};
 ghost use Rattle.vbucket.specs.Receiving.{AdoptsExactly, AsksExactly, MarkersExactly, ReceivesExactly};
 ghost use Rattle.vbucket.specs.Saving.{AllAreGiven, CountsExactly, CountsInNumbers, FlushesExactly, LoadsExactly, RollsExactly, SavesExactly};
@@ -40,7 +44,8 @@ pub fn writes_are_read()
 {}
 
 /// The changes of a reply are those that the call appended, with seqnos above all that were there.
-/// A rollback tells none, and leaves none.
+/// A rollback tells none, and leaves none; a trim tells none, and folds those that it gives up into what
+/// stands before the others.
 pub fn changes_are_told()
     ensures { HeldGrows }
 {}
@@ -96,10 +101,28 @@ pub fn logs_are_adopted()
 {}
 
 /// Closing a stream takes it out and leaves all else, and says whether it was there. An open stream's
-/// changes come from memory where it stands at the floor or above; one below waits.
+/// changes come from memory where it has a cursor, or stands where memory serves, which is at the
+/// floor or above, and then has one; any other waits, and nothing changes.
 pub fn streams_are_closed()
     ensures closes { ClosesExactly }
     ensures places { PlacesExactly }
+    ensures memory { (vb : Plain) → memory_from vb ≡ vb.floor }
+{}
+
+/// A stream's cursor is made where its changes come from memory, and where it is opened at a place that
+/// is served from there; it moves where the stream takes a snapshot, and goes with the stream. No other
+/// call does any of this, and the flusher's cursor stays.
+pub fn cursors_are_made_and_go()
+    ensures { CursorsExactly }
+{}
+
+/// A trim gives up exactly the sealed spans at the front that are written down and that no cursor needs,
+/// and changes no document. A cursor that is taken away leaves its stream where it is, and no other
+/// stream changes. A vBucket that is sound stays so.
+pub fn memory_is_given_up()
+    ensures trims { TrimsExactly }
+    ensures drops { DropsExactly }
+    ensures sound { GivesUpSoundly }
 {}
 
 /// What a follower asks for, which logs, markers and changes it takes, and why others are refused, in

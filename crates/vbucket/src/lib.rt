@@ -19,16 +19,17 @@ pub use durable_laws::{
     no_more_is_left_to_commit, others_resolve_none, receipts_commit, roles_give_up,
 };
 pub use laws::{
-    batches_are_rests, changes_are_told, logs_are_adopted, messages_are_taken, numbers_are_told,
-    promotions_lead, receipts_are_counted, refusals, requests_are_told, roles_end_streams,
-    rollbacks_leave_nothing, spans_are_filled, stays_sound, streams_are_closed,
-    takes_are_snapshots, writes_are_read, written_ones_are_loaded,
+    batches_are_rests, changes_are_told, cursors_are_made_and_go, logs_are_adopted,
+    memory_is_given_up, messages_are_taken, numbers_are_told, promotions_lead,
+    receipts_are_counted, refusals, requests_are_told, roles_end_streams, rollbacks_leave_nothing,
+    spans_are_filled, stays_sound, streams_are_closed, takes_are_snapshots, writes_are_read,
+    written_ones_are_loaded,
 };
 pub use machine::{TurnVb, VbSeat};
 pub use role_laws::{heirs_own, pends_wait, yields_keep_one};
 pub use row_laws::{
-    highs_are_last_seqnos, highs_in_numbers, new_ones_are_empty, no_first_markers_are_awaited,
-    snapshots_start_in_numbers, vbuckets_are_shown,
+    cursors_in_numbers, highs_are_last_seqnos, highs_in_numbers, new_ones_are_empty,
+    no_first_markers_are_awaited, snapshots_start_in_numbers, vbuckets_are_shown,
 };
 pub use vb_map::{VbMap, VbSlot};
 pub use vbucket::VBucket;

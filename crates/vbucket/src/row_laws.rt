@@ -2,9 +2,10 @@
 //! law as the contract of a function that does nothing.
 ghost use Rattle.std.specs.Prelude.{◌≡◌, ◌∷◌, [], ℕ, false, true, List, None};
 ghost use Rattle.durability.specs.Outstanding.{no_acks};
-ghost use Rattle.vb_calls.specs.{Plain.{Plain, plain_step}, State.{image_in, loaded_vb, new_vb}, Streams.{is_plain_next, need_of, snapshot_of, start_of}};
-ghost use Rattle.vb_calls.specs.declared.calls.VbAnswer.TheVariants.{Logged, Shown};
-ghost use Rattle.vb_calls.specs.declared.calls.VbCall.TheVariants.{Log, Show};
+ghost use Rattle.vb_calls.specs.{Plain.{Plain, plain_step}, State.{image_in, loaded_vb, new_vb, quiet_reply}, Streams.{is_plain_next, need_of, snapshot_of, start_of}};
+ghost use Rattle.vb_calls.specs.declared.calls.VbAnswer.TheVariants.{Absent, Logged, Nothing, Placed, Shown, Stat as StatAnswer};
+ghost use Rattle.vb_calls.specs.declared.calls.VbCall.TheVariants.{Log, Place, Show, Stat, Take};
+ghost use Rattle.vb_types.specs.declared.stream.Place.TheVariants.{Memory, WaitSaved};
 ghost use Rattle.vb_types.specs.Images.{Picture, nothing};
 ghost use Rattle.vb_types.specs.declared.change.Change.{Change as ChangeData};
 ghost use Rattle.vb_types.specs.declared.position.Position.{Position as At};
@@ -12,7 +13,7 @@ ghost use Rattle.vb_types.specs.declared.role.LogEntry.{LogEntry as Entry};
 ghost use Rattle.vb_types.specs.declared.role.Role.{Role as RoleData};
 ghost use Rattle.vb_types.specs.declared.role.Role.TheVariants.{Active, Dead, Pending, Replica};
 ghost use Rattle.vb_turn.specs.History.{after, Legal, top};
-ghost use Rattle.vbucket.specs.Firsts.{asked_for, given_to};
+ghost use Rattle.vbucket.specs.Firsts.{asked_for, feeding, given_to};
 ghost use Rattle.vbucket.specs.Highs.{follower_at, high_of, rolled_back, HighsAreLast};
 
 /// Neither a vBucket that was made nor one that was loaded awaits a first marker: it took no log over.
@@ -56,6 +57,19 @@ pub fn snapshots_start_in_numbers()
     ensures later { (start_of (given_to 12 (asked_for true 5 3 9)) ≡ 12) × (need_of (given_to 12 (asked_for true 5 3 9)) ≡ 0) × (is_plain_next (given_to 12 (asked_for true 5 3 9)) ≡ false) }
     ensures memory { (items : List ChangeData) → ((snapshot_of (asked_for true 5 3 9) items).disk ≡ false) × ((snapshot_of (asked_for true 5 3 9) items).start ≡ 3) × ((snapshot_of (asked_for true 5 3 9) items).items ≡ items) }
     ensures plain { (is_plain_next (asked_for false 9 4 9) ≡ true) × (is_plain_next (given_to 12 (asked_for false 5 3 9)) ≡ true) }
+{}
+
+/// Over memory that begins at 5: a stream without a cursor waits at 4, and has one from 5 on once it is
+/// asked for its place; one that has a cursor keeps it. None is given anything, or counted, without one.
+pub fn cursors_in_numbers()
+    ensures below { (vb : Plain) → plain_step (feeding vb false 4) (Place 7) ≡ (feeding vb false 4, quiet_reply (Placed WaitSaved)) }
+    ensures first { (vb : Plain) → plain_step (feeding vb false 5) (Place 7) ≡ (feeding vb true 5, quiet_reply (Placed Memory)) }
+    ensures above { (vb : Plain) → plain_step (feeding vb false 9) (Place 7) ≡ (feeding vb true 9, quiet_reply (Placed Memory)) }
+    ensures keeps { (vb : Plain) → plain_step (feeding vb true 9) (Place 7) ≡ (feeding vb true 9, quiet_reply (Placed Memory)) }
+    ensures other { (vb : Plain) → plain_step (feeding vb false 9) (Place 8) ≡ (feeding vb false 9, quiet_reply Absent) }
+    ensures idle { (vb : Plain) → plain_step (feeding vb false 9) (Take 7) ≡ (feeding vb false 9, quiet_reply Nothing) }
+    ensures counted { (vb : Plain) → (plain_step (feeding vb true 9) Stat).1.answer ≡ StatAnswer 0 0 2 vb.saved vb.position.at }
+    ensures uncounted { (vb : Plain) → (plain_step (feeding vb false 9) Stat).1.answer ≡ StatAnswer 0 0 1 vb.saved vb.position.at }
 {}
 
 /// The number that a vBucket shows as it is called in turns is its last seqno: that which it tells among

@@ -3,11 +3,12 @@ ghost use Rattle.std.specs.Prelude.{◌≡◌, ◌<◌, ◌≤◌, ◌++◌, ◌
 ghost use Rattle.std.specs.List.{filter};
 ghost use Rattle.std.specs.Option.{option_copied};
 ghost use Rattle.branch_model.specs.Histories.{last_seq};
-ghost use Rattle.ckpt_list.specs.Lists.{between, held_of, high_of};
-ghost use Rattle.vbucket.specs.Kept.{sent_items};
-ghost use Rattle.vbucket.specs.Steady.{with_cursor};
+ghost use Rattle.ckpt_list.specs.Lists.{between, held_of, high_of, moved_cursor};
+ghost use Rattle.vbucket.specs.Kept.{SameChanges, sent_items};
+ghost use Rattle.vbucket.specs.Steady.{CursorsAreStreams, with_cursor};
 ghost use Rattle.vbucket.specs.Turning.{only_stream};
 ghost use Rattle.vb_calls.specs.Roles.{stream_ids};
+ghost use Rattle.vb_calls.specs.Trims.{has_cursor};
 ghost use Rattle.vb_types.specs.declared.change.Act.TheVariants.{Remove, Set};
 ghost use Rattle.vb_calls.specs.Streams as spec;
 
@@ -69,14 +70,13 @@ pub fn needed_end(stream: &Stream) -> u64
     if stream.taken { 0 } else { se }
 }
 
-/// Makes a cursor for a new stream, unless some of what it has to be given is not in memory. An
-/// `Err` changes nothing.
-fn feed(list: &mut CkptList, id: u64, place: u64) -> Result<(), AllocError>
-    ensures ok { OnOk result (list.new ≡ record list.old { places = with_cursor list.old.places list.old.floor id place }) }
+/// Makes a new stream's cursor, if it has one. An `Err` changes nothing.
+fn feed(list: &mut CkptList, stream: &Stream) -> Result<(), AllocError>
+    ensures ok { OnOk result (list.new ≡ record list.old { places = with_cursor list.old.places stream.now }) }
     ensures err { OnErr result (list.new ≡ list.old) }
 {
-    if list.floor() <= place {
-        list.place_cursor(id, place)?;
+    if stream.cursor {
+        list.place_cursor(stream.id, stream.place)?;
     }
     Ok(())
 }
@@ -88,13 +88,76 @@ pub fn open(
     stream: Stream,
 ) -> Result<(), AllocError>
     ensures streams { OnOk result (streams.new.items ≡ streams.old.items ++ stream ∷ []) }
-    ensures list { OnOk result (list.new ≡ record list.old { places = with_cursor list.old.places list.old.floor stream.id stream.place }) }
+    ensures list { OnOk result (list.new ≡ record list.old { places = with_cursor list.old.places stream }) }
     ensures same { OnErr result (streams.new.items ≡ streams.old.items) }
     ensures err { OnErr result (list.new ≡ list.old) }
 {
     streams.reserve(1)?;
-    feed(list, stream.id, stream.place)?;
+    feed(list, &stream)?;
     streams.push(stream).unwrap();
+    Ok(())
+}
+
+/// A stream with a cursor at its place, or with none, if it is the one of this number.
+fn with_its(stream: &Stream, id: u64, has: bool) -> Stream
+    ensures { result ≡ spec.with_cursor_as has id stream.now }
+{
+    if stream.id != id {
+        return *stream;
+    }
+    Stream {
+        cursor: has,
+        ..*stream
+    }
+}
+
+/// Gives the stream of this number a cursor at its place, or takes it away.
+fn mark_fed(streams: &mut [Stream], id: u64, has: bool)
+    ensures { streams.new ≡ map (spec.with_cursor_as has id) streams.old }
+{
+    for at in 0..streams.len() {
+        streams[at] = with_its(&streams[at], id, has);
+    }
+}
+
+/// Whether the stream of a number is open, and has a cursor.
+pub fn has_cursor(streams: &[Stream], id: u64) -> bool
+    ensures { result ≡ has_cursor (spec.stream_at id streams.now) }
+{
+    match stream_of(streams, id) {
+        Some(stream) => stream.cursor,
+        None => false,
+    }
+}
+
+/// Takes the cursor of the stream of this number away; no stream has the number 0. Takes no memory.
+pub fn drop_cursor(list: &mut CkptList, streams: &mut Vec<Stream>, id: u64)
+    requires { CursorsAreStreams list.old.places streams.old.items }
+    ensures streams { streams.new.items ≡ map (spec.without_cursor id) streams.old.items }
+    ensures list { SameChanges list.old list.new }
+    ensures fed { CursorsAreStreams list.new.places (map (spec.without_cursor id) streams.old.items) }
+{
+    mark_fed(streams, id, false);
+    if id == 0 {
+        return;
+    }
+    list.drop_cursor(id);
+}
+
+/// Makes the cursor of the stream of this number, at its place. An `Err` changes nothing.
+pub fn give_cursor(
+    list: &mut CkptList,
+    streams: &mut Vec<Stream>,
+    id: u64,
+    place: u64,
+) -> Result<(), AllocError>
+    ensures streams { OnOk result (streams.new.items ≡ map (spec.given_cursor id) streams.old.items) }
+    ensures list { OnOk result (list.new ≡ moved_cursor list.old id place) }
+    ensures same { OnErr result (streams.new.items ≡ streams.old.items) }
+    ensures err { OnErr result (list.new ≡ list.old) }
+{
+    list.place_cursor(id, place)?;
+    mark_fed(streams, id, true);
     Ok(())
 }
 

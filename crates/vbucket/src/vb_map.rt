@@ -96,6 +96,10 @@ impl VbMap {
 impl VbAccess for VbMap {
     ghost has = { has_slot };
 
+    fn is_there(&self, v: u16) -> bool {
+        self.has(v)
+    }
+
     ghost step = { alone_step SlotsStand };
 
     fn call(&mut self, v: u16, call: VbCall) -> Result<Option<VbReply>, AllocError> {

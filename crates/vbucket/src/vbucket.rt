@@ -5,17 +5,14 @@ ghost use Rattle.branch_model.specs.Logs.{log_limit};
 ghost use Rattle.vb_types.specs.declared.position.TheConstants.{MAX_SEQ as last_seq};
 ghost use Rattle.vb_types.specs.declared.role.Role.TheVariants.{Active as ActiveRole};
 ghost use Rattle.vb_calls.specs.Plain.{Plain, plain_step, new_vb};
-ghost use Rattle.cursor_set.specs.Cursors.{place_of};
-ghost use Rattle.vbucket.specs.Kept.{SameChanges, kept_behind, kept_store, kept_place, kept_take};
+ghost use Rattle.vbucket.specs.Kept.{kept_behind, kept_store};
 ghost use Rattle.vbucket.specs.Stands.{MayFail, StandsFor};
 ghost use Rattle.vbucket.specs.Stepping.{IsOther};
 ghost use Rattle.vb_calls.specs.State.{complete_position, doc_at, first_log, is_active, is_left, newest_branch, get_row, log_row, pending_of, quiet_reply, show_row};
 ghost use Rattle.vb_calls.specs.Writes.{key_refusal, lacks_seqnos, store_refusal, write_change};
-ghost use Rattle.vb_calls.specs.Streams.{ask_reply, open_refusal, open_row, stream_at};
 ghost use Rattle.vb_calls.specs.Roles.{parent_of};
 ghost use Rattle.vb_calls.specs.Forms.{HasForm, TakesMemory};
-ghost use Rattle.vb_calls.specs.declared.calls.VbAnswer.TheVariants.{Asked};
-ghost use Rattle.vb_calls.specs.declared.calls.VbCall.TheVariants.{Store, OpenStream, Log};
+ghost use Rattle.vb_calls.specs.declared.calls.VbCall.TheVariants.{Store, Log};
 ghost use Rattle.vb_calls.specs.declared.span.Origin.TheVariants.{Own};
 ghost use Rattle.ckpt_list.specs.Lists.{ckpts_at};
 ghost use Rattle.durability.specs.Outstanding.{no_acks};
@@ -23,13 +20,13 @@ ghost use Rattle.durability.specs.Outstanding.{no_acks};
 mod consuming;
 mod durable;
 mod entering;
+mod feeding;
 mod flushing;
 mod loading;
 mod roles;
 mod settling;
 
 use self::durable::Wish;
-use crate::streams;
 use crate::writes::{next_cas, next_rev, refusal_by, takes_writes};
 use ckpt_list::CkptList;
 use durability::Active;
@@ -39,8 +36,7 @@ use std::alloc::{AllocError, Global};
 use std::marker::Model;
 use vb_calls::{Origin, Stream, VbAnswer, VbCall, VbReply};
 use vb_types::{
-    Act, AskAnswer, Change, Doc, Key, Listed, LogEntry, MAX_SEQ, Op, Place, Position, Role, Status,
-    StreamAsk, Verdict, Write,
+    Act, Change, Doc, Key, Listed, LogEntry, MAX_SEQ, Op, Position, Role, Status, Write,
 };
 
 /// A vBucket: its documents, and the checkpoints of its changes.
@@ -294,99 +290,6 @@ impl VBucket {
         Ok(self.told_with(VbAnswer::Stored { uuid, seq, cas }, uuid, changes))
     }
 
-    /// Why a request for a stream is refused, the first of its reasons.
-    fn stream_refusal(&self, id: u64, ask: &StreamAsk) -> Option<Status>
-        ensures first { result ≡ open_refusal self.now.rest id ask.now }
-        ensures number { result ≡ None → 0 < id }
-        ensures active { result ≡ None → is_active self.now.rest.role ≡ true }
-        ensures free { result ≡ None → stream_at id self.now.rest.streams ≡ None }
-    {
-        if !takes_writes(self.role) {
-            Some(Status::NotMyVbucket)
-        } else if id == 0 || streams::stream_of(&self.streams, id).is_some() {
-            Some(Status::KeyEexists)
-        } else if streams::has_range(ask) {
-            None
-        } else {
-            Some(Status::Erange)
-        }
-    }
-
-    /// What is said to a request, with the failover log and the last seqno.
-    fn tell_asked(&self, said: AskAnswer) -> Result<VbReply, AllocError>
-        ensures reply { IfOk result (λ reply. reply ≡ ask_reply self.now.rest said) }
-        ensures bounded { length self.now.rest.log ≤ log_limit }
-    {
-        let log = self.entries()?;
-        Ok(self.asked(said, log))
-    }
-
-    /// The same with this log.
-    fn asked(&self, said: AskAnswer, log: Listed<LogEntry>) -> VbReply
-        ensures { result ≡ quiet_reply (Asked said log self.now.rest.position.at) }
-    {
-        let high = self.position.at;
-        self.told(VbAnswer::Asked { said, log, high })
-    }
-
-    fn open_stream(&mut self, id: u64, ask: StreamAsk, sync: bool) -> Result<VbReply, AllocError>
-        ensures ok { IfOk result (λ reply. (self.new.rest, reply) ≡ open_row self.old.rest id ask sync) }
-        ensures list { OnOk result (SameChanges self.old.list self.new.list) }
-        ensures form { IfOk result (λ reply. HasForm (OpenStream id ask sync) reply.answer) }
-        ensures err { OnErr result (self.new ≡ self.old) }
-    {
-        if let Some(status) = self.stream_refusal(id, &ask) {
-            return self.tell_asked(AskAnswer::Refuse(status.code()));
-        }
-        if let Verdict::Roll(to) = self.log.rule(&ask, self.position.at) {
-            return self.tell_asked(AskAnswer::Roll(to));
-        }
-        let stream = Stream {
-            id,
-            ask,
-            sync,
-            place: ask.start,
-            taken: false,
-        };
-        let log = self.entries()?;
-        streams::open(&mut self.list, &mut self.streams, stream)?;
-        Ok(self.asked(AskAnswer::Go, log))
-    }
-
-    fn place(&self, id: u64) -> VbReply
-        ensures { result ≡ kept_place self.now id }
-    {
-        match streams::stream_of(&self.streams, id) {
-            Some(stream) if self.list.floor() <= stream.place => {
-                self.told(VbAnswer::Placed(Place::Memory))
-            }
-            Some(_) => self.told(VbAnswer::Placed(Place::WaitSaved)),
-            None => self.told(VbAnswer::Absent),
-        }
-    }
-
-    fn take(&mut self, id: u64) -> Result<VbReply, AllocError>
-        ensures ok { IfOk result (λ reply. (self.new, reply) ≡ kept_take self.old id) }
-        ensures zero { place_of self.new.list.places 0 ≡ place_of self.old.list.places 0 }
-        ensures err { OnErr result (self.new ≡ self.old) }
-    {
-        let Some(stream) = streams::stream_of(&self.streams, id) else {
-            return Ok(self.told(VbAnswer::Absent));
-        };
-        let stream = *stream;
-        if stream.place < self.list.floor() {
-            return Ok(self.told(VbAnswer::Nothing));
-        }
-        let need = streams::needed_end(&stream);
-        let Some(end) = self.list.whole_end(stream.place, need, stream.sync) else {
-            return Ok(self.told(VbAnswer::Nothing));
-        };
-        let snapshot = streams::snapshot_to(self.alloc, &self.list, &stream, end)?;
-        self.list.advance(id, end);
-        streams::move_on(&mut self.streams, id, end);
-        Ok(self.told(VbAnswer::Taken(snapshot)))
-    }
-
     /// Makes one call. The reply and the new state are the plain vBucket's. An `Err` changes nothing,
     /// and comes of no call that takes no memory, nor of a batch that is done where the vBucket is not active.
     #[tactic(auto, unfolding(crate::specs::Stands::StandsFor))]
@@ -420,7 +323,7 @@ impl VBucket {
             VbCall::Tick { clock } => self.tick(clock),
             VbCall::Due => Ok(self.due()),
             VbCall::OpenStream { id, ask, sync } => self.open_stream(id, ask, sync),
-            VbCall::Place { id } => Ok(self.place(id)),
+            VbCall::Place { id } => self.place(id),
             VbCall::Take { id } => self.take(id),
             VbCall::CloseStream { id } => Ok(self.close_stream(id)),
             other => self.step_other(other),
@@ -450,6 +353,8 @@ impl VBucket {
             VbCall::Own => self.own(),
             VbCall::Yield { id } => self.hand_over(id),
             VbCall::Seal => self.seal(),
+            VbCall::Trim => Ok(self.trim()),
+            VbCall::DropCursor { id } => Ok(self.drop_cursor(id)),
             VbCall::FlushTake => self.flush_take(),
             VbCall::FlushDone { receipt } => self.flush_done(receipt.seq()),
             VbCall::Stat => Ok(self.stat()),

@@ -1,10 +1,13 @@
 //! Calls and answers in plain values. A test is a table of both; one function makes the calls and
 //! compares.
+use super::saving::{Pages, flush};
 use durability::Chain;
 use journal_points::Saved;
 use std::alloc::{AllocError, Global};
 use std::test::Fail;
 use vb_calls::{Resolution, VbAnswer, VbCall, VbReply};
+use vb_disk::MemDisk;
+use vb_journal::Journal;
 use vb_types::{
     Act, AskAnswer, Batch, Change, Doc, Image, Key, Level, Listed, LogEntry, Op, Place, Position,
     Role, Status, StreamAsk, Value, Write,
@@ -51,6 +54,11 @@ pub enum Do {
     /// A way back to this seqno, where nothing stands.
     Roll(u64),
     FlushTake,
+    /// To take the next batch, write it down, and tell the vBucket so.
+    Flush,
+    /// To take the cursor of the stream of this number away.
+    Drop(u64),
+    Trim,
     Stat,
     Promote(u64),
     Follow,
@@ -97,6 +105,8 @@ pub enum Told {
     Logged(usize, u64, u64),
     Flag(bool),
     Num(u64),
+    /// What may be acknowledged, and what is saved.
+    Dues(u64, u64),
     /// The branch, its parent, where it leaves it, and the last seqno.
     Branch(u64, Option<u64>, u64, u64),
     /// The position's snapshot, and how far it is taken.
@@ -300,6 +310,8 @@ fn plain_call(what: Do) -> VbCall {
         Do::Ask => VbCall::Ask,
         Do::Marker(start, end) => VbCall::Marker { start, end },
         Do::FlushTake => VbCall::FlushTake,
+        Do::Drop(id) => VbCall::DropCursor { id },
+        Do::Trim => VbCall::Trim,
         Do::Stat => VbCall::Stat,
         Do::Promote(uuid) => VbCall::Promote { uuid },
         Do::Follow => VbCall::Follow,
@@ -344,7 +356,7 @@ fn logged(log: &[LogEntry]) -> Told {
     }
 }
 
-fn outline(reply: &VbReply) -> Told {
+pub fn outline(reply: &VbReply) -> Told {
     match &reply.answer {
         VbAnswer::Status(status) => Told::Refused(*status),
         VbAnswer::Absent => Told::Absent,
@@ -363,6 +375,7 @@ fn outline(reply: &VbReply) -> Told {
         VbAnswer::Logged { log } => logged(log.as_slice()),
         VbAnswer::Flag(did) => Told::Flag(*did),
         VbAnswer::Num(seq) => Told::Num(*seq),
+        VbAnswer::Dues { seq, saved } => Told::Dues(*seq, *saved),
         VbAnswer::Branch {
             uuid,
             parent,
@@ -387,7 +400,10 @@ fn outline(reply: &VbReply) -> Told {
     }
 }
 
-fn answered(alloc: Global, vb: &mut VBucket, what: Do) -> Result<Told, Fail> {
+fn answered(alloc: Global, vb: &mut VBucket, pages: &mut Pages, what: Do) -> Result<Told, Fail> {
+    if matches!(what, Do::Flush) {
+        return flush(vb, pages);
+    }
     let call = call(alloc, what)?;
     let reply = vb.step(call)?;
     let told = outline(&reply);
@@ -428,8 +444,9 @@ fn begun(alloc: Global, at: At) -> Result<VBucket, AllocError> {
 
 /// The place of the first call of a vBucket that is told something else than the table says.
 fn first_other_at(alloc: Global, vb: &mut VBucket, steps: &[Step]) -> Result<Option<usize>, Fail> {
+    let mut pages = Journal::create(alloc, MemDisk::new(alloc)?);
     for (place, (what, want)) in steps.iter().enumerate() {
-        if answered(alloc, vb, *what)? != *want {
+        if answered(alloc, vb, &mut pages, *what)? != *want {
             return Ok(Some(place));
         }
     }

@@ -128,7 +128,7 @@ const TURNED: [Step; 6] = [
     (Do::Durable(Level::Majority, 9), Told::Prepared(1, 1)),
     (Do::Follow, Told::Resolved(0, Resolution::Ambiguous)),
     (Do::Ack(1, 1), Told::Refused(Status::NotMyVbucket)),
-    (Do::Due, Told::Num(1)),
+    (Do::Due, Told::Dues(1, 0)),
 ];
 
 #[test]

@@ -170,7 +170,7 @@ impl VBucket {
         self.expire(clock)
     }
 
-    /// What the vBucket, which follows another one, may acknowledge.
+    /// What the vBucket, which follows another one, may acknowledge, and up to where all is written down.
     pub(super) fn due(&self) -> VbReply
         ensures reply { result ≡ due_row self.now.rest }
         ensures form { HasForm Due result.answer }
@@ -180,7 +180,10 @@ impl VBucket {
         }
         let Position { ss, se, at } = self.position;
         let (complete, _) = effective(at, ss, se);
-        self.told(VbAnswer::Num(last_due(&self.table, complete, self.saved)))
+        self.told(VbAnswer::Dues {
+            seq: last_due(&self.table, complete, self.saved),
+            saved: self.saved,
+        })
     }
 }
 

@@ -318,10 +318,10 @@ fn add_left(left: &mut Active, prepares: &[(Key, Pend)]) -> Result<(), AllocErro
 
 /// Takes away a stream and its cursor. No stream has the number 0.
 fn close(list: &mut CkptList, streams: &mut Vec<Stream>, id: u64)
-    requires { CursorsAreStreams list.old.places list.old.floor streams.old.items }
+    requires { CursorsAreStreams list.old.places streams.old.items }
     ensures streams { streams.new.items ≡ without_stream id streams.old.items }
     ensures list { SameChanges list.old list.new }
-    ensures fed { CursorsAreStreams list.new.places list.new.floor streams.new.items }
+    ensures fed { CursorsAreStreams list.new.places streams.new.items }
 {
     streams::close(streams, id);
     if id == 0 {
@@ -332,9 +332,9 @@ fn close(list: &mut CkptList, streams: &mut Vec<Stream>, id: u64)
 
 /// Takes the cursors of these streams away, but for that of the one of a number, where that is not 0.
 fn drop_cursors(list: &mut CkptList, streams: &[Stream], kept: u64)
-    requires { CursorsAreStreams list.old.places list.old.floor streams.now }
+    requires { CursorsAreStreams list.old.places streams.now }
     ensures changes { SameChanges list.old list.new }
-    ensures fed { CursorsAreStreams list.new.places list.new.floor (only_stream kept streams.now) }
+    ensures fed { CursorsAreStreams list.new.places (only_stream kept streams.now) }
 {
     for stream in streams {
         if stream.id != kept {

@@ -1,7 +1,6 @@
 use Rattle.std.proofs.Common.{◌≡◌, ◌+◌, ◌≤◌, length}
-use Rattle.std.specs.Prelude.{vec_capacity}
 use Rattle.std.specs.List.{AllByRecursion, fold}
-use Rattle.std.specs.VecDeque.{deque_len}
+use Rattle.std.specs.VecDeque.{deque_capacity, deque_len}
 use Rattle.vb_calls.specs.declared.span.TheConstants.{MAX_WEIGHT}
 use Rattle.checkpoint.specs.Checkpoints.{items_weight}
 use Rattle.ckpt_list.specs.Windows.{CanSeal, count_in, sealed_behind}
@@ -13,9 +12,9 @@ invariant-loop-window l = record {
       ≡ fold sealed_behind (record { spans = l.initial.sealed.items; items = l.initial.items.items; ends = l.initial.wholes.items }) l.initial.full.items;
   can : CanSeal l.wholes.items l.full.items;
   light : AllByRecursion (λ w. items_weight w.items ≤ MAX_WEIGHT) l.full.items → AllByRecursion (λ w. items_weight w.items ≤ MAX_WEIGHT) l.initial.full.items;
-  sealed_room : length l.sealed.items + deque_len l.full ≤ vec_capacity l.sealed;
-  items_room : length l.items.items + count_in l.full.items ≤ vec_capacity l.items;
-  wholes_room : length l.wholes.items + deque_len l.full ≤ vec_capacity l.wholes;
+  sealed_room : length l.sealed.items + deque_len l.full ≤ deque_capacity l.sealed;
+  items_room : length l.items.items + count_in l.full.items ≤ deque_capacity l.items;
+  wholes_room : length l.wholes.items + deque_len l.full ≤ deque_capacity l.wholes;
 }
 
 abbrev pub decreases-loop-window : goal.decreases-loop-window

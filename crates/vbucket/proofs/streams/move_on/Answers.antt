@@ -7,7 +7,7 @@ use Rattle.vbucket.proofs.streams.move_on.Goals as goal
 
 pub loop-at-preserved : goal.loop-at-preserved
 loop-at-preserved c =
-    let none : Stream = record { id = 0; ask = record { flags = 0; start = 0; end = 0; uuid = 0; ss = 0; se = 0 }; sync = false; place = 0; taken = false } in
+    let none : Stream = record { id = 0; ask = record { flags = 0; start = 0; end = 0; uuid = 0; ss = 0; se = 0 }; sync = false; place = 0; cursor = false; taken = false } in
     let here : c.loop-at.at < length c.loop-at.streams = subst (λ n. c.loop-at.at < n) (sym c.loop-at.auto.streams) c.loop-at-test.true in
     let old : Stream = get_or c.loop-at.streams c.loop-at.at none in
     ap (slice_set c.loop-at.streams c.loop-at.at) c.moved.ensures

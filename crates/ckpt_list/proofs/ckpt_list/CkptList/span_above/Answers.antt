@@ -13,13 +13,13 @@ use Rattle.ckpt_list.proofs.Seals.{spans_sorted}
 use Rattle.ckpt_list.proofs.ckpt_list.CkptList.span_above.Goals as goal
 
 pub end_above-requires : goal.end_above-requires
-end_above-requires c = subst (IsNonDecreasingBy (λ (w : Span). w.last)) (sym c.deref.ensures.value) (spans_sorted _ c.self.invariant.sound)
+end_above-requires c = spans_sorted _ c.self.invariant.sound
 
 pub returns-clause-span : goal.returns-clause-span
 returns-clause-span c =
     let l : Ckpts = c.args.self.now in
     let p = λ (w : Span). ltb c.args.n w.last in
-    c.or.ensures ∙ ap (λ o. option_or o c.open_above.result) (c.end_above.ensures ∙ ap (find p) (c.deref.ensures.value ∙ ap (λ (m : Ckpts). m.sealed) c.self.view_is))
+    c.or.ensures ∙ ap (λ o. option_or o c.open_above.result) (c.end_above.ensures ∙ ap (find p) (ap (λ (m : Ckpts). m.sealed) c.self.view_is))
     ∙ ap (option_or (find p l.sealed)) c.open_above.ensures ∙ sym (find-append p l.sealed (option_to_list (ckpt_span l.newest)))
 
 pub returns-clause-end : goal.returns-clause-end

@@ -10,11 +10,11 @@ use Rattle.ckpt_list.proofs.Seals.{items_sorted}
 use Rattle.ckpt_list.proofs.ckpt_list.CkptList.whole_end.Goals as goal
 
 pub first_seen-requires : goal.first_seen-requires
-first_seen-requires c = subst (IsNonDecreasingBy (λ (d : Change). d.seq)) (sym c.deref.ensures.value) (items_sorted _ c.self.invariant.sound)
+first_seen-requires c = items_sorted _ c.self.invariant.sound
 
 pub overflow_sub-max : goal.overflow_sub-max
 overflow_sub-max c =
-    let first : first_of c.args.place c.args.sync c.self.inside.items.items ≡ Some c.in-Some.seen = sym (c.first_seen.ensures ∙ ap (first_of c.args.place c.args.sync) c.deref.ensures.value) ∙ c.in-Some.is in
+    let first : first_of c.args.place c.args.sync c.self.inside.items.items ≡ Some c.in-Some.seen = sym c.first_seen.ensures ∙ c.in-Some.is in
     let low : c.args.place < c.in-Some.seen = (first_within _ _ _ _ _ _ c.self.invariant.sound.items first).0 in
     let m : c.max.result ≡ max c.in-Some.seen c.args.need = search rules in
     omega arith
@@ -23,7 +23,7 @@ pub returns-in-Some-clause-stop : goal.returns-in-Some-clause-stop
 returns-in-Some-clause-stop c =
     let l : Ckpts = c.args.self.now in
     let first : first_of c.args.place c.args.sync l.items ≡ Some c.in-Some.seen =
-    sym (c.first_seen.ensures ∙ ap (first_of c.args.place c.args.sync) (c.deref.ensures.value ∙ ap (λ (m : Ckpts). m.items) c.self.view_is)) ∙ c.in-Some.is in
+    sym (c.first_seen.ensures ∙ ap (first_of c.args.place c.args.sync) (ap (λ (m : Ckpts). m.items) c.self.view_is)) ∙ c.in-Some.is in
     let m : c.max.result ≡ max c.in-Some.seen c.args.need = search rules in
     stop_or l c.args.place c.args.need c.in-Some.seen c.args.sync c.max.result _ _ _ (subst IsSound c.self.view_is c.self.invariant.sound) first m c.sealed_stop.ensures c.open_stop.ensures c.or.ensures
 
@@ -31,7 +31,7 @@ pub returns-in-None-clause-stop : goal.returns-in-None-clause-stop
 returns-in-None-clause-stop c =
     let l : Ckpts = c.args.self.now in
     let first : first_of c.args.place c.args.sync l.items ≡ None =
-    sym (c.first_seen.ensures ∙ ap (first_of c.args.place c.args.sync) (c.deref.ensures.value ∙ ap (λ (m : Ckpts). m.items) c.self.view_is)) ∙ c.in-None.is in
+    sym (c.first_seen.ensures ∙ ap (first_of c.args.place c.args.sync) (ap (λ (m : Ckpts). m.items) c.self.view_is)) ∙ c.in-None.is in
     let seen : has_seen c.args.sync c.args.place l.newest.items ≡ true = sym (c.has_seen.ensures ∙ ap (λ (m : Ckpts). has_seen c.args.sync c.args.place m.newest.items) c.self.view_is) ∙ c.if-has_seen.true in
     c.open_stop-in-None.ensures ∙ stop_of_open l c.args.place c.args.need c.args.sync (subst IsSound c.self.view_is c.self.invariant.sound) first seen
 
@@ -39,7 +39,7 @@ pub returns-in-None-2-clause-stop : goal.returns-in-None-2-clause-stop
 returns-in-None-2-clause-stop c =
     let l : Ckpts = c.args.self.now in
     let first : first_of c.args.place c.args.sync l.items ≡ None =
-    sym (c.first_seen.ensures ∙ ap (first_of c.args.place c.args.sync) (c.deref.ensures.value ∙ ap (λ (m : Ckpts). m.items) c.self.view_is)) ∙ c.in-None.is in
+    sym (c.first_seen.ensures ∙ ap (first_of c.args.place c.args.sync) (ap (λ (m : Ckpts). m.items) c.self.view_is)) ∙ c.in-None.is in
     let seen : has_seen c.args.sync c.args.place l.newest.items ≡ false = sym (c.has_seen.ensures ∙ ap (λ (m : Ckpts). has_seen c.args.sync c.args.place m.newest.items) c.self.view_is) ∙ c.if-has_seen.false in
     stop_none l c.args.place c.args.need c.args.sync (subst IsSound c.self.view_is c.self.invariant.sound) first seen
 

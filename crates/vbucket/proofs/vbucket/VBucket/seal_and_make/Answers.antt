@@ -19,7 +19,7 @@ invariant_of-self-in-Some c =
     let i = c.in-Some.ensures.item in
     let at : c.complete_at-self-inside.result ≡ own_position v.position cs = c.complete_at-self-inside.ensures ∙ ap (λ (x : Change). complete_position x.seq) i.1 ∙ sym (last_position v.position cs c.in-Some.last.now i.3.0) in
     let list : c.seal_and_put_all.new.list ≡ own_queued (sealed_list v.list) cs = c.in_ok-seal_and_put_all.ensures.list in
-    let is : IsSteady v.role v.position.at (sealed_list v.list) v.streams.items = record { high = c.self.invariant.high; fed = c.self.invariant.fed; few = c.self.invariant.few } in
+    let is : IsSteady v.role v.position.at (sealed_list v.list) v.streams.items = record { high = c.self.invariant.high; fed = c.self.invariant.fed; feeds = c.self.invariant.feeds } in
     subst (λ (p : Position). IsSteady v.role p.at c.seal_and_put_all.new.list v.streams.items) (sym at)
     (subst (λ (l : Ckpts). IsSteady v.role (own_position v.position cs).at l v.streams.items) (sym list) (queued_all_steady v.role v.position (sealed_list v.list) v.streams.items cs is))
 

@@ -1,5 +1,5 @@
 use Rattle.std.proofs.lemmas.Result.{IfOk-weaker}
-use Rattle.vbucket.proofs.Standing.{open_stands, take_stands, store_stands}
+use Rattle.vbucket.proofs.Standing.{open_stands, place_stands, take_stands, store_stands}
 use Rattle.vbucket.proofs.Keeping.{ack_stands, chain_stands, durable_stands, tick_stands}
 use Rattle.vbucket.proofs.Stepping.{both, told}
 use Rattle.vbucket.proofs.vbucket.VBucket.step.Goals as goal
@@ -12,6 +12,11 @@ pub returns-in-OpenStream-clause-ok : goal.returns-in-OpenStream-clause-ok
 returns-in-OpenStream-clause-ok c =
     both c.open_stream.result _ _ _ c.open_stream.ensures.ok c.open_stream.ensures.list
     (λ reply e l. told c.args.self.now c.args.call _ c.in-OpenStream.is c.open_stream.new.self reply (λ s kept. open_stands c.args.self.now s kept c.open_stream.new.self reply c.in-OpenStream.id c.in-OpenStream.ask c.in-OpenStream.sync e l))
+
+pub returns-in-Place-clause-ok : goal.returns-in-Place-clause-ok
+returns-in-Place-clause-ok c =
+    both c.place.result _ _ _ c.place.ensures.ok c.place.ensures.list
+    (λ reply e l. told c.args.self.now c.args.call _ c.in-Place.is c.place.new.self reply (λ s kept. place_stands c.args.self.now s kept c.place.new.self reply c.in-Place.id e l))
 
 pub returns-in-Take-clause-ok : goal.returns-in-Take-clause-ok
 returns-in-Take-clause-ok c =

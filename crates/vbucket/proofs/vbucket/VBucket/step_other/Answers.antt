@@ -14,6 +14,7 @@ use Rattle.vbucket.proofs.Standing.{adopt_stands, flush_stands, mark_stands, pen
 use Rattle.vbucket.proofs.Keeping.{flushed_stands}
 use Rattle.vbucket.proofs.Promoted.{own_stands, promote_stands}
 use Rattle.vbucket.proofs.Stepping.{both, told}
+use Rattle.vbucket.proofs.Trimming.{drop_stands, trim_stands}
 use Rattle.vbucket.proofs.vbucket.VBucket.step_other.Goals as goal
 
 pub returns-in-Adopt-clause-ok : goal.returns-in-Adopt-clause-ok
@@ -60,6 +61,15 @@ pub returns-in-Yield-clause-ok : goal.returns-in-Yield-clause-ok
 returns-in-Yield-clause-ok c =
     both c.hand_over.result _ _ _ c.hand_over.ensures.ok c.hand_over.ensures.list
     (λ reply e l. told c.args.self.now c.args.call _ c.in-Yield.is c.hand_over.new.self reply (λ s kept. yield_stands c.args.self.now s kept c.hand_over.new.self reply c.in-Yield.id e l))
+
+pub returns-in-Trim-clause-ok : goal.returns-in-Trim-clause-ok
+returns-in-Trim-clause-ok c =
+    told c.args.self.now c.args.call _ c.in-Trim.is c.trim.new.self c.trim.result (λ s kept. trim_stands c.args.self.now s kept c.trim.new.self c.trim.result c.trim.ensures.row c.trim.ensures.needless)
+
+pub returns-in-DropCursor-clause-ok : goal.returns-in-DropCursor-clause-ok
+returns-in-DropCursor-clause-ok c =
+    told c.args.self.now c.args.call _ c.in-DropCursor.is c.drop_cursor.new.self c.drop_cursor.result
+    (λ s kept. drop_stands c.args.self.now s kept c.drop_cursor.new.self c.drop_cursor.result c.in-DropCursor.id c.drop_cursor.ensures.row c.drop_cursor.ensures.list)
 
 pub returns-in-FlushTake-clause-ok : goal.returns-in-FlushTake-clause-ok
 returns-in-FlushTake-clause-ok c =

@@ -4,22 +4,20 @@ use Rattle.vb_calls.specs.declared.stream.Stream.{Stream}
 use Rattle.cursor_set.specs.Cursors.{Places}
 use Rattle.ckpt_list.specs.Lists.{Ckpts}
 use Rattle.vbucket.specs.Kept.{SameChanges}
-use Rattle.vbucket.specs.Steady.{CursorsAreStreams}
-use Rattle.vbucket.specs.Turning.{only_stream}
 use Rattle.vbucket.proofs.Dropping.{AreGone, first_gone, gone_next, gone_past, gone_last}
 use Rattle.vbucket.proofs.Feeding.{dropped_same, numbered_at, same_more}
 use Rattle.vbucket.proofs.vbucket.roles.drop_cursors.Goals as goal
 use Rattle.vbucket.proofs.vbucket.roles.drop_cursors.Goals.{then-stream-kept, else-stream-kept}
 
 abbrev none : Stream
-none = record { id = 0; ask = record { flags = 0; start = 0; end = 0; uuid = 0; ss = 0; se = 0 }; sync = false; place = 0; taken = false }
+none = record { id = 0; ask = record { flags = 0; start = 0; end = 0; uuid = 0; ss = 0; se = 0 }; sync = false; place = 0; cursor = false; taken = false }
 
 pub loop-stream-init : goal.loop-stream-init
-loop-stream-init c = (record { rest = refl; zero = refl }, first_gone c.args.list.now.places c.args.list.now.floor c.args.streams.now c.args.kept c.requires)
+loop-stream-init c = (record { rest = refl; zero = refl }, first_gone c.args.list.now.places c.args.streams.now c.args.kept c.requires)
 
 pub drop_cursor-requires : goal.drop_cursor-requires
 drop_cursor-requires c =
-    numbered_at c.args.list.now.places c.args.list.now.floor c.args.streams.now c.loop-stream.stream-index none (get_or c.args.streams.now c.loop-stream.stream-index none) c.requires c.loop-stream-test.true refl
+    numbered_at c.args.list.now.places c.args.streams.now c.loop-stream.stream-index none (get_or c.args.streams.now c.loop-stream.stream-index none) c.requires c.loop-stream-test.true refl
 
 pub loop-stream-preserved : goal.loop-stream-preserved
 loop-stream-preserved c =
@@ -30,7 +28,7 @@ loop-stream-preserved c =
     let s : Stream = get_or streams i none in
     let next : suc i ≡ i + 1 = omega arith in
     let was = c.loop-stream.invariant in
-    let named = numbered_at first.places first.floor streams i none s c.requires c.loop-stream-test.true refl in
+    let named = numbered_at first.places streams i none s c.requires c.loop-stream-test.true refl in
     elim c.if-stream-kept.branch [
       | then-stream-kept w ↦
           let places = w.drop_cursor.ensures.places in
@@ -50,5 +48,4 @@ returns-clause-fed c =
     let l : Ckpts = c.loop-stream.list in
     let was = c.loop-stream.invariant in
     let all = drop_all c.loop-stream.stream-index c.args.streams.now c.loop-stream-test.false in
-    subst (λ n. CursorsAreStreams l.places n (only_stream c.args.kept c.args.streams.now)) (sym (ap (λ (m : Ckpts). m.floor) was.0.rest))
-    (gone_last c.args.list.now.places c.args.list.now.floor c.args.streams.now c.args.kept l.places c.requires (subst (AreGone c.args.list.now.places c.args.kept l.places) all was.1))
+    gone_last c.args.list.now.places c.args.streams.now c.args.kept l.places c.requires (subst (AreGone c.args.list.now.places c.args.kept l.places) all was.1)
