@@ -1,3 +1,4 @@
 pub mod Disks
 pub mod Lasts
 pub mod Views
+pub mod Backfilling

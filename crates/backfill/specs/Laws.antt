@@ -1,5 +1,5 @@
 -- what a stream gets from the disk, in other words
-use Rattle.std.specs.Prelude.{◌≡◌, ◌↔◌, ◌⊎◌, ℕ, ◌<◌, ◌≤◌, Bool, true, false, List, Some, None}
+use Rattle.std.specs.Prelude.{◌≡◌, ◌↔◌, ◌⊎◌, ℕ, ◌<◌, ◌≤◌, Bool, true, false, List, Option, Some, None}
 use Rattle.vb_types.specs.Histories.{Rises, IsIn, Slot, is_visible}
 use Rattle.vb_types.specs.declared.change.Act.{Act}
 use Rattle.vb_types.specs.declared.change.Act.TheVariants as act
@@ -10,7 +10,14 @@ use Rattle.vb_types.specs.declared.stream.Snapshot.{Snapshot}
 use Rattle.branch_model.specs.Snapshots.{Covers, CoversPlain}
 use Rattle.journal_points.specs.Points.{standing}
 use Rattle.journal_points.specs.Laws.{IsLast}
-use Rattle.backfill.specs.Backfills.{disk_snapshot_of}
+use Rattle.vb_calls.specs.Jobs.{RanJob}
+use Rattle.vb_calls.specs.Shelves.{Ask, Read, Got, Reading, Book, Shut, Unread, Broken}
+use Rattle.vb_calls.specs.declared.calls.VbCall.{VbCall}
+use Rattle.vb_calls.specs.declared.calls.VbReply.{VbReply}
+use Rattle.vb_disk.specs.Counts.{Rose}
+use Rattle.backfill.specs.declared.backfilled.Backfilled.{Backfilled}
+use Rattle.backfill.specs.declared.backfilled.Backfilled.TheVariants as filled
+use Rattle.backfill.specs.Backfills.{backfill_job, disk_snapshot_of}
 
 -- a stream sees a change: it is a sync one, or the change is one of a document
 abbrev pub Sees : Bool → Change → Type 0
@@ -61,3 +68,24 @@ pub record Gives (js : List Record) (start end : ℕ) (sync : Bool) : Type 0 whe
 -- where the seqnos of the changes that stand rise
 abbrev pub GivesDue : Type 0
 GivesDue = (js : List Record) (top start end : ℕ) (sync : Bool) → Rises 0 top (standing js) → Gives js start end sync
+
+-- By the records that were read, whose seqnos rise: it is not that the journal can't be read; there is nothing exactly where none stands that the stream sees above its place and up to `end`; and a snapshot is the stream's.
+pub record HasOfBook (book : List Record) (start end : ℕ) (sync : Bool) (came : Backfilled) : Type 0 where
+  pub nothing : (came ≡ filled.Nothing) ↔ ((c : Change) → IsIn c (standing book) → Sees sync c → start < c.seq → c.seq ≤ end → ⊥)
+  pub snapshot : (s : Snapshot) → came ≡ filled.Snapshot s → IsDiskSnapshot book start end sync s
+
+module _ {W J : Type 0} (step : W → ℕ → VbCall → Option VbReply → W → Type 0) (asks : J → ℕ → (ask : Ask) → Got ask → J → Type 0) (failures : J → ℕ → ℕ) where
+  -- A backfill of v: its journal was read, once, and nothing else was asked or called. It comes to that the journal can't be read exactly where an append to it failed before, its disk failed in this read, or it is damaged; a disk that failed counted it.
+  pub record ReadsOnce (v start end : ℕ) (sync : Bool) (old : W) (kept : J) (came : Backfilled) (new : W) (left : J) : Type 0 where
+    pub reading : Reading
+    pub asked : asks kept v Read reading left
+    pub untouched : new ≡ old
+    pub disk : (came ≡ filled.Disk) ↔ ((reading ≡ Shut) ⊎ ((reading ≡ Unread) ⊎ ((place : ℕ) × (reading ≡ Broken place))))
+    pub failed : reading ≡ Unread → Rose (failures kept v) (failures left v)
+    pub book : (book : List Record) (top : ℕ) → reading ≡ Book book → Rises 0 top (standing book) → HasOfBook book start end sync came
+
+  -- so is each that ran
+  abbrev pub BackfillsReadOnce : Type 0
+  BackfillsReadOnce =
+      (v start end : ℕ) (sync : Bool) (old : W) (kept : J) (came : Backfilled) (new : W) (left : J)
+      → RanJob step asks (backfill_job v start end sync) old kept came new left → ReadsOnce v start end sync old kept came new left

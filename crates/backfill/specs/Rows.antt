@@ -1,5 +1,5 @@
 -- a small journal, to work its snapshots by hand. Its last record comes first
-use Rattle.std.specs.Prelude.{ℕ, true, false, List, [], ◌∷◌, Option, Some}
+use Rattle.std.specs.Prelude.{ℕ, ◌==◌, Bool, true, false, if◌then◌else◌, List, [], ◌∷◌, Option, Some, None}
 use Rattle.vb_types.specs.declared.change.Act.TheVariants.{Remove, Prepare, Commit, Abort}
 use Rattle.vb_types.specs.declared.change.Change.{Change}
 use Rattle.vb_types.specs.declared.change.Level.TheVariants.{Majority, PersistMajority}
@@ -8,6 +8,12 @@ use Rattle.vb_types.specs.declared.journal.Record.{Record}
 use Rattle.vb_types.specs.declared.journal.Record.TheVariants as noted
 use Rattle.vb_types.specs.declared.role.Role.TheVariants.{Active}
 use Rattle.vb_types.specs.declared.stream.Snapshot.{Snapshot}
+use Rattle.vb_calls.specs.Jobs.{after_job}
+use Rattle.vb_calls.specs.Shelves.{Shelves, open_shelf}
+use Rattle.vb_calls.specs.States.{States}
+use Rattle.backfill.specs.declared.backfilled.Backfilled.{Backfilled}
+use Rattle.backfill.specs.declared.backfilled.Backfilled.TheVariants as filled
+use Rattle.backfill.specs.Backfills.{backfill_job}
 use Rattle.journal_points.specs.Rows.{doc_of, change_of, set_a, prepare_b, commit_b, old_log}
 
 -- a is set, b is prepared and committed, as in the rows of `journal_points`; then a's removal is; c is prepared and given up; d is prepared and waits
@@ -50,3 +56,19 @@ rolled = noted.Roll 3 ∷ saved
 -- a snapshot from the disk
 abbrev pub disk : ℕ → ℕ → List Change → Option Snapshot
 disk start end items = Some (record { start = start; end = end; disk = true; items = items })
+
+-- the journal of vBucket 7 has these records, at 8 is one of which an append failed, and at 9 there is none
+abbrev pub shelves : Shelves
+shelves = λ v. if v == 7 then Some (open_shelf saved) else if v == 8 then Some (record (open_shelf saved) { is_closed = true }) else None
+
+-- no vBucket is there
+abbrev pub no_vb : States
+no_vb v = None
+
+-- what a backfill comes to there
+abbrev pub filled_at : ℕ → ℕ → ℕ → Bool → Backfilled
+filled_at v start end sync = (after_job (backfill_job v start end sync) no_vb shelves).1
+
+-- a snapshot from the disk, as a backfill has it
+abbrev pub has : ℕ → ℕ → List Change → Backfilled
+has start end items = filled.Snapshot (record { start = start; end = end; disk = true; items = items })
