@@ -49,7 +49,7 @@ each_so : (P Q R : PlainStream → Type 0) → ((x : PlainStream) → P x → Q 
 each_so P Q R so [] p q = All-nil R
 each_so P Q R so (x ∷ xs) p q = All-cons R x xs (so x (All-head P x xs p) (All-head Q x xs q)) (each_so P Q R so xs (All-tail P x xs p) (All-tail Q x xs q))
 
-waits_same : (f g : PlainStream → Waits) (xs : List PlainStream) → All (λ x. f x ≡ g x) xs → waits_in f xs ≡ waits_in g xs
+pub waits_same : (f g : PlainStream → Waits) (xs : List PlainStream) → All (λ x. f x ≡ g x) xs → waits_in f xs ≡ waits_in g xs
 waits_same f g [] all = refl
 waits_same f g (x ∷ xs) all = λ i. first_wait (All-head (λ (y : PlainStream). f y ≡ g y) x xs all i) (waits_same f g xs (All-tail (λ (y : PlainStream). f y ≡ g y) x xs all) i)
 
@@ -88,25 +88,6 @@ module _ (name : StreamName) where
       rest_waits : q.waits ≡ waits_in (waits_now q states) rest
       rest_waits = are.waits ∙ ap (λ b. first_wait (if b then waits_at states x else wait.Nothing) (waits_in (waits_now q states) rest)) fresh
 
-      -- so does one that is quiet now
-      pub quiet_still : (waits : Waits) → after (next_frame name x) states ≡ (states, (next.Quiet waits, x)) → All (λ y. y.id ≢ x.id) rest → AreStill (with_quiet x.id waits q) states (rest ++ x ∷ [])
-      quiet_still waits is differ =
-          let q' : QuietOnes = with_quiet x.id waits q in
-          let same : All (λ (y : PlainStream). is_quiet y.id q' ≡ is_quiet y.id q) rest =
-          each_so (λ (y : PlainStream). y.id ≢ x.id) (λ (y : PlainStream). y.id ≢ x.id) (λ (y : PlainStream). is_quiet y.id q' ≡ is_quiet y.id q) (λ y other other'. quiet_same q x.id waits y.id other) rest differ differ in
-          let now : is_quiet x.id q' ≡ true = quiet_then q x.id waits x.id (inr refl) in
-          let last : waits_now q' states x ≡ waits = (λ i. if now i then says_wait (is i).1.0 else wait.Nothing) in
-          record {
-            still = All-append (Still q' states) rest (x ∷ [])
-                (each_so (Still q states) (λ (y : PlainStream). is_quiet y.id q' ≡ is_quiet y.id q) (Still q' states) (λ y so e quiet. so (sym e ∙ quiet)) rest rest_still same)
-                (All-cons (Still q' states) x [] (λ quiet. (waits, is)) (All-nil (Still q' states)));
-            waits = (λ i. first_wait (rest_waits i) waits)
-                ∙ (λ i. first_wait (waits_same (waits_now q states) (waits_now q' states) rest
-                (each_so (λ (y : PlainStream). is_quiet y.id q' ≡ is_quiet y.id q) (λ (y : PlainStream). y.id ≢ x.id) (λ (y : PlainStream). waits_now q states y ≡ waits_now q' states y) (λ y e other. ap (λ b. if b then waits_at states y else wait.Nothing) (sym e)) rest same differ) i) waits)
-                ∙ (λ i. first_wait (waits_in (waits_now q' states) rest) (sym last i))
-                ∙ sym (waits_more (waits_now q' states) rest x);
-          }
-
       module _ (states' : States) (others : All (λ y. states y.vb ≡ states' y.vb) rest) where
         left_still : All (Still q states') rest
         left_still = each_so (Still q states) (λ (y : PlainStream). states y.vb ≡ states' y.vb) (Still q states') (λ y so same quiet. still_again name y states states' same (so quiet)) rest rest_still others
@@ -116,6 +97,25 @@ module _ (name : StreamName) where
             ∙ waits_same (waits_now q states) (waits_now q states') rest
             (each_so (λ (y : PlainStream). states y.vb ≡ states' y.vb) (λ (y : PlainStream). states y.vb ≡ states' y.vb) (λ (y : PlainStream). waits_now q states y ≡ waits_now q states' y)
             (λ y same same'. ap (λ (n : Next). if is_quiet y.id q then says_wait n.0 else wait.Nothing) (same_next name y states states' same)) rest others others)
+
+        -- so does one that is quiet now, also over what it left
+        pub quiet_still : (waits : Waits) → after (next_frame name x) states' ≡ (states', (next.Quiet waits, x)) → All (λ y. y.id ≢ x.id) rest → AreStill (with_quiet x.id waits q) states' (rest ++ x ∷ [])
+        quiet_still waits is differ =
+            let q' : QuietOnes = with_quiet x.id waits q in
+            let same : All (λ (y : PlainStream). is_quiet y.id q' ≡ is_quiet y.id q) rest =
+            each_so (λ (y : PlainStream). y.id ≢ x.id) (λ (y : PlainStream). y.id ≢ x.id) (λ (y : PlainStream). is_quiet y.id q' ≡ is_quiet y.id q) (λ y other other'. quiet_same q x.id waits y.id other) rest differ differ in
+            let now : is_quiet x.id q' ≡ true = quiet_then q x.id waits x.id (inr refl) in
+            let last : waits_now q' states' x ≡ waits = (λ i. if now i then says_wait (is i).1.0 else wait.Nothing) in
+            record {
+              still = All-append (Still q' states') rest (x ∷ [])
+                  (each_so (Still q states') (λ (y : PlainStream). is_quiet y.id q' ≡ is_quiet y.id q) (Still q' states') (λ y so e quiet. so (sym e ∙ quiet)) rest left_still same)
+                  (All-cons (Still q' states') x [] (λ quiet. (waits, is)) (All-nil (Still q' states')));
+              waits = (λ i. first_wait (left_waits i) waits)
+                  ∙ (λ i. first_wait (waits_same (waits_now q states') (waits_now q' states') rest
+                  (each_so (λ (y : PlainStream). is_quiet y.id q' ≡ is_quiet y.id q) (λ (y : PlainStream). y.id ≢ x.id) (λ (y : PlainStream). waits_now q states' y ≡ waits_now q' states' y) (λ y e other. ap (λ b. if b then waits_at states' y else wait.Nothing) (sym e)) rest same differ) i) waits)
+                  ∙ (λ i. first_wait (waits_in (waits_now q' states') rest) (sym last i))
+                  ∙ sym (waits_more (waits_now q' states') rest x);
+            }
 
         -- one that is over leaves the others so
         pub end_still : AreStill q states' rest

@@ -26,11 +26,11 @@ use Rattle.dcp_producer.specs.Having.{AreOfOthers, IsSound}
 use Rattle.dcp_producer.specs.Producers.{PlainStream, PlainProducer, Served}
 use Rattle.dcp_producer.specs.Pulling.{Pulling, QuietOnes, came, end_put, first_wait, frame_put, frames_put, halt_of, is_quiet, none_quiet, one_frame, one_turn, past_turn, pull_of, pulled, quiet_halt, stream_asked, stream_went, turn_had, turns_came, with_quiet}
 use Rattle.dcp_producer.specs.Turns.{turns_of}
-use Rattle.dcp_producer.proofs.Anew.{AreStill, end_still, first_still, first_turn, passed_still, put_still, quiet_still, waits_at, waits_now}
+use Rattle.dcp_producer.proofs.Anew.{AreStill, end_still, first_still, first_turn, passed_still, put_still, quiet_still, waits_at, waits_now, waits_same}
 use Rattle.dcp_producer.proofs.Awake.{quiet_then, says_wait, waits_in, waits_more}
 use Rattle.dcp_producer.proofs.Framing.{GoesOn, Same}
 use Rattle.dcp_producer.proofs.Pulling.{all_turns}
-use Rattle.dcp_producer.proofs.Stills.{IsStill, after_same, elsewhere, quiet_leaves}
+use Rattle.dcp_producer.proofs.Stills.{IsStill, after_same, elsewhere, quiet_so, same_next}
 use Rattle.dcp_producer.proofs.Turning.{InTurn, before, behind, in_turn, turn_is, turned_so, end_with, went_so, over_so, order_with, order_less, sound_with, sound_less}
 
 -- between two turns of a pull: the connection is sound, and who was quiet is so still
@@ -92,6 +92,10 @@ others_vb x front back apart = All-append (λ (y : PlainStream). y.vb ≢ x.vb) 
     older : (front : List PlainStream) → AreOfOthers (front ++ x ∷ back) → All (λ (y : PlainStream). y.vb ≢ x.vb) front
     older [] apart = All-nil (λ (y : PlainStream). y.vb ≢ x.vb)
     older (y ∷ front) apart = All-cons (λ (z : PlainStream). z.vb ≢ x.vb) y front (λ is. there (λ (z : PlainStream). z.vb ≢ y.vb) front apart.0 (sym is)) (older front apart.1)
+
+all_right : (P : PlainStream → Type 0) (xs ys : List PlainStream) → All P (xs ++ ys) → All P ys
+all_right P [] ys all = all
+all_right P (x ∷ xs) ys all = all_right P xs ys (All-tail P x (xs ++ ys) all)
 
 module _ (p : Pulling) (states : States) (keeps : Keeps p states) (it : InTurn p.served.end) where
   abbrev s : Served
@@ -159,23 +163,23 @@ module _ (p : Pulling) (states : States) (keeps : Keeps p states) (it : InTurn p
     order_is = order_with p.served.end sound it x itself ∙ ap (λ xs. xs ++ x ∷ []) order ∙ append_assoc more done (x ∷ [])
 
     -- behind a turn in which it was quiet, now or before
-    goes_on : (q : QuietOnes) (saves : Waits) → run ≡ (states, (next.Quiet saves, x)) → AreStill name q states (rest ++ x ∷ []) → AreQuiet q (done ++ x ∷ [])
-        → SameTries (after (repeated (length more) one_turn (pull_of (with_one x) q)) states) (after (on more waits run.1) run.0)
-    goes_on q saves comes still all =
-        let now : waits_at name states x ≡ saves = ap (λ (y : States × Next). says_wait y.1.0) comes in
-        let told : first_wait waits saves ≡ waits_in (waits_at name states) (done ++ x ∷ []) =
-        (λ i. first_wait (is i) saves) ∙ (λ i. first_wait (waits_in (waits_at name states) done) (sym now i)) ∙ sym (waits_more (waits_at name states) done x) in
-        subst (SameTries (after (repeated (length more) one_turn (pull_of (with_one x) q)) states))
-        (sym ((λ i. after (on more waits (comes i).1) (comes i).0) ∙ (λ i. after (each_asked more (first_wait waits saves) (went x itself i)) states)))
-        (later (done ++ x ∷ []) (first_wait waits saves) (pull_of (with_one x) q) states
-        (record { sound = sound_with p.served.end sound it x itself; still = subst (AreStill name q states) (sym (order_with p.served.end sound it x itself)) still })
+    goes_on : (q : QuietOnes) (saves : Waits) (left : States) → run ≡ (left, (next.Quiet saves, x)) → after (next_frame name x) left ≡ (left, (next.Quiet saves, x)) → waits_in (waits_at name states) done ≡ waits_in (waits_at name left) done
+        → AreStill name q left (rest ++ x ∷ []) → AreQuiet q (done ++ x ∷ []) → SameTries (after (repeated (length more) one_turn (pull_of (with_one x) q)) left) (after (on more waits run.1) run.0)
+    goes_on q saves left comes again same still all =
+        let now : waits_at name left x ≡ saves = ap (λ (y : States × Next). says_wait y.1.0) again in
+        let told : first_wait waits saves ≡ waits_in (waits_at name left) (done ++ x ∷ []) =
+        (λ i. first_wait ((is ∙ same) i) saves) ∙ (λ i. first_wait (waits_in (waits_at name left) done) (sym now i)) ∙ sym (waits_more (waits_at name left) done x) in
+        subst (SameTries (after (repeated (length more) one_turn (pull_of (with_one x) q)) left))
+        (sym ((λ i. after (on more waits (comes i).1) (comes i).0) ∙ (λ i. after (each_asked more (first_wait waits saves) (went x itself i)) left)))
+        (later (done ++ x ∷ []) (first_wait waits saves) (pull_of (with_one x) q) left
+        (record { sound = sound_with p.served.end sound it x itself; still = subst (AreStill name q left) (sym (order_with p.served.end sound it x itself)) still })
         order_is all told)
 
     -- it was quiet before
     goes_past : is_quiet x.id p.quiet ≡ true → Goes (Done (More (pull_of (with_one x) p.quiet)))
     goes_past now =
         let (saves, comes) = first_still name p.quiet states x rest its_still now in
-        goes_on p.quiet saves comes (passed_still name p.quiet states x rest its_still)
+        goes_on p.quiet saves states comes comes refl (passed_still name p.quiet states x rest its_still)
         (All-append (λ (y : PlainStream). is_quiet y.id p.quiet ≡ true) done (x ∷ []) quiet (All-cons (λ (y : PlainStream). is_quiet y.id p.quiet ≡ true) x [] now (All-nil (λ (y : PlainStream). is_quiet y.id p.quiet ≡ true))))
 
     -- it is asked
@@ -194,6 +198,13 @@ module _ (p : Pulling) (states : States) (keeps : Keeps p states) (it : InTurn p
           by (y ∷ ys) all =
               All-cons (λ (z : PlainStream). states z.vb ≡ left z.vb) y ys (sym (elsewhere name x states y.vb (All-head (λ (z : PlainStream). z.vb ≢ x.vb) y ys all)) ∙ (λ i. (comes i).0 y.vb))
               (by ys (All-tail (λ (z : PlainStream). z.vb ≢ x.vb) y ys all))
+
+      -- so those that are of other vBuckets wait for what they waited for
+      each_same : (left : States) (xs : List PlainStream) → All (λ y. states y.vb ≡ left y.vb) xs → All (λ y. waits_at name states y ≡ waits_at name left y) xs
+      each_same left [] all = All-nil (λ (y : PlainStream). waits_at name states y ≡ waits_at name left y)
+      each_same left (y ∷ ys) all =
+          All-cons (λ (z : PlainStream). waits_at name states z ≡ waits_at name left z) y ys (ap (λ (n : Next). says_wait n.0) (same_next name y states left (All-head (λ (z : PlainStream). states z.vb ≡ left z.vb) y ys all)))
+          (each_same left ys (All-tail (λ (z : PlainStream). states z.vb ≡ left z.vb) y ys all))
 
       same_left : (left : States) (what : NextFrame) (stream : PlainStream) → run ≡ (left, (what, stream)) → Same x stream
       same_left left what stream comes = subst (λ (y : States × Next). GoesOn x y.1) comes (after_same name x states)
@@ -227,17 +238,22 @@ module _ (p : Pulling) (states : States) (keeps : Keeps p states) (it : InTurn p
                 })),
           )
       asked left (next.Quiet saves) stream comes =
-          let (left_same, stream_same) = quiet_leaves name x states left saves stream comes in
-          let whole : run ≡ (states, (next.Quiet saves, x)) = comes ∙ (λ i. (left_same i, (next.Quiet saves, stream_same i))) in
+          let so = quiet_so name x states left saves stream comes in let stream_same : stream ≡ x = so.itself in
+          let whole : run ≡ (left, (next.Quiet saves, x)) = comes ∙ (λ i. (left, (next.Quiet saves, stream_same i))) in
+          let again : after (next_frame name x) left ≡ (left, (next.Quiet saves, x)) = so.again ∙ (λ i. (left, (next.Quiet saves, stream_same i))) in
+          let apart_so : All (λ (y : PlainStream). states y.vb ≡ left y.vb) rest = others left (next.Quiet saves, stream) comes in
+          let same : waits_in (waits_at name states) done ≡ waits_in (waits_at name left) done =
+          waits_same (waits_at name states) (waits_at name left) done
+          (each_same left done (all_right (λ (y : PlainStream). states y.vb ≡ left y.vb) more done (subst (All (λ (y : PlainStream). states y.vb ≡ left y.vb)) order apart_so))) in
           let q : QuietOnes = with_quiet x.id saves p.quiet in
           let now : is_quiet x.id q ≡ true = quiet_then p.quiet x.id saves x.id (inr refl) in
-          let goes = goes_on q saves whole (quiet_still name p.quiet states x rest its_still fresh saves whole differ)
+          let goes = goes_on q saves left whole again same (quiet_still name p.quiet states x rest its_still fresh left apart_so saves again differ)
           (All-append (λ (y : PlainStream). is_quiet y.id q ≡ true) done (x ∷ []) (quiet_more saves done quiet) (All-cons (λ (y : PlainStream). is_quiet y.id q ≡ true) x [] now (All-nil (λ (y : PlainStream). is_quiet y.id q ≡ true)))) in
-          let code : after (go_on (repeated (length more) one_turn) (came (with_one x) p.quiet (next.Quiet saves, stream))) left ≡ after (repeated (length more) one_turn (pull_of (with_one x) q)) states =
-          (λ i. after (repeated (length more) one_turn (pull_of (stream_went (stream_same i) (with_one x)) (with_quiet (stream_same i).id saves p.quiet))) (left_same i))
-          ∙ (λ i. after (repeated (length more) one_turn (pull_of (went x itself i) q)) states) in
+          let code : after (go_on (repeated (length more) one_turn) (came (with_one x) p.quiet (next.Quiet saves, stream))) left ≡ after (repeated (length more) one_turn (pull_of (with_one x) q)) left =
+          (λ i. after (repeated (length more) one_turn (pull_of (stream_went (stream_same i) (with_one x)) (with_quiet (stream_same i).id saves p.quiet))) left)
+          ∙ (λ i. after (repeated (length more) one_turn (pull_of (went x itself i) q)) left) in
           subst (λ y. SameTries y (after (on more waits (next.Quiet saves, stream)) left)) (sym code)
-          (subst (SameTries (after (repeated (length more) one_turn (pull_of (with_one x) q)) states)) (λ i. after (on more waits (comes i).1) (comes i).0) goes)
+          (subst (SameTries (after (repeated (length more) one_turn (pull_of (with_one x) q)) left)) (λ i. after (on more waits (comes i).1) (comes i).0) goes)
 
       goes_asked : Goes (stream_asked (with_one x) p.quiet x)
       goes_asked =

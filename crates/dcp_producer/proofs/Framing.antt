@@ -21,6 +21,7 @@ use Rattle.takeover.specs.declared.give_up.GiveUp.{GiveUp}
 use Rattle.vb_types.specs.declared.role.Role.{Role}
 use Rattle.vb_types.specs.declared.role.Role.TheVariants as role
 use Rattle.dcp_producer.specs.Producers.{PlainStream}
+use Rattle.dcp_producer.specs.Firsts.{as_sent}
 use Rattle.dcp_producer.specs.Frames.{Next, ALL_SENT, STATE_CHANGED, alive_next, none_next, over, quiet, role_of, state_next, state_put, step_next, item_next, marker_next, place_told, taken_next, take_answered, placed_next, place_said, place_requested, reaches_end, close_sent, next_by, next_frame}
 
 -- what an answer to a take says: a snapshot, that there is none yet, or nothing of the stream
@@ -36,6 +37,7 @@ take_answer answer.Nothing = is_nothing refl
 take_answer answer.Done = is_none (λ name stream. refl)
 take_answer (answer.Flag b) = is_none (λ name stream. refl)
 take_answer (answer.Num n) = is_none (λ name stream. refl)
+take_answer (answer.Dues seq saved) = is_none (λ name stream. refl)
 take_answer (answer.Branch uuid parent fork high) = is_none (λ name stream. refl)
 take_answer (answer.Found doc) = is_none (λ name stream. refl)
 take_answer (answer.Stored uuid seq cas) = is_none (λ name stream. refl)
@@ -126,6 +128,7 @@ place_is answer.Nothing from is = absurd (cc is)
 place_is answer.Done from is = absurd (cc is)
 place_is (answer.Flag b) from is = absurd (cc is)
 place_is (answer.Num n) from is = absurd (cc is)
+place_is (answer.Dues seq saved) from is = absurd (cc is)
 place_is (answer.Branch uuid parent fork high) from is = absurd (cc is)
 place_is (answer.Found doc) from is = absurd (cc is)
 place_is (answer.Stored uuid seq cas) from is = absurd (cc is)
@@ -197,7 +200,7 @@ pub data FrameCase (name : StreamName) (stream : PlainStream) (made : List Made)
   it_waits : AsksMore stream → (reply : Option VbReply) → Says reply (answer.Placed place.WaitSaved) → made ≡ (stream.vb, call.Place stream.id, reply) ∷ [] → next ≡ quiet waits.Saved stream → FrameCase name stream made next
   no_place : AsksMore stream → (reply : Option VbReply) → place_said reply ≡ None → made ≡ (stream.vb, call.Place stream.id, reply) ∷ [] → next ≡ over STATE_CHANGED stream → FrameCase name stream made next
   a_marker : AsksMore stream → (from reply : Option VbReply) (snapshot : Snapshot) → Says from (answer.Placed place.Memory) → Says reply (answer.Taken snapshot)
-      → made ≡ (stream.vb, call.Place stream.id, from) ∷ (stream.vb, call.Take stream.id, reply) ∷ [] → next ≡ marker_next name stream snapshot → FrameCase name stream made next
+      → made ≡ (stream.vb, call.Place stream.id, from) ∷ (stream.vb, call.Take stream.id, reply) ∷ [] → next ≡ marker_next name stream (as_sent stream snapshot) → FrameCase name stream made next
   nothing : AsksMore stream → stream.gives ≡ None → (from reply : Option VbReply) → Says from (answer.Placed place.Memory) → Says reply answer.Nothing
       → made ≡ (stream.vb, call.Place stream.id, from) ∷ (stream.vb, call.Take stream.id, reply) ∷ [] → next ≡ quiet waits.Nothing stream → FrameCase name stream made next
   all_up : AsksMore stream → (g : GiveUp) → stream.gives ≡ Some g → (told : Role) → role_of (done g).step ≡ Some told → (from reply : Option VbReply) → Says from (answer.Placed place.Memory) → Says reply answer.Nothing
@@ -235,7 +238,7 @@ module _ (name : StreamName) (stream : PlainStream) where
           (λ none. absurd (not_over stream.gives (ap (λ (x : Next). frame_kind x.0) (sym (tells name stream) ∙ ap (taken_next name stream) none))))
           (made_so (Some r) there) (comes ∙ ap (take_answered name stream) there ∙ tells name stream)
         where
-          not_marker : (snapshot : Snapshot) → over STATE_CHANGED stream ≡ marker_next name stream snapshot → ⊥
+          not_marker : (snapshot : Snapshot) → over STATE_CHANGED stream ≡ marker_next name stream (as_sent stream snapshot) → ⊥
           not_marker snapshot is = absurd (let e : 1 ≡ 0 = ap (λ (x : Next). frame_kind x.0) is in omega (arith, e))
 
           not_told : (g : GiveUp) (o : Option Role) → 1 ≡ frame_kind (state_next name stream g o).0 → ⊥

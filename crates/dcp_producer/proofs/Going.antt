@@ -28,6 +28,8 @@ use Rattle.dcp_producer.specs.declared.halt.Halt.{Halt}
 use Rattle.dcp_producer.specs.declared.next_frame.NextFrame.{NextFrame}
 use Rattle.dcp_producer.specs.declared.next_frame.NextFrame.TheVariants as next
 use Rattle.dcp_producer.specs.Producers.{PlainStream, Served}
+use Rattle.dcp_producer.specs.FirstMarkers.{IsStart}
+use Rattle.dcp_producer.specs.Firsts.{items_sent, start_sent}
 use Rattle.dcp_producer.specs.Frames.{Next, act_message, act_sent, marker_flags, next_frame}
 use Rattle.dcp_producer.specs.Ending.{AreEnding, LeavesEnding, NoCall}
 use Rattle.dcp_producer.specs.Endings.{calls_in}
@@ -39,6 +41,7 @@ use Rattle.dcp_producer.specs.Orders.{IsOut}
 use Rattle.dcp_producer.specs.Pulling.{frames_put}
 use Rattle.dcp_producer.specs.Pulls.{PullsInTurn}
 use Rattle.dcp_producer.specs.Turns.{Tried, IsTold, TakeTurns, StandApart, standing_by, waiting, turns_of, made_in, put_by}
+use Rattle.dcp_producer.proofs.Firsts.{items_so, starts_so}
 use Rattle.dcp_producer.proofs.Framing.{Same, FrameCase, an_item, by_role, all_sent, it_waits, no_place, a_marker, nothing, all_up, a_state, awaits, no_take, frame_told, frame_same}
 use Rattle.dcp_producer.proofs.Ends.{apart, asks_kind, awaits_at, is_sent, said_so, sent_kind, some_within, state_kind, tells_at, waits_kind}
 use Rattle.dcp_producer.proofs.Pulling.{pulls_in_turn}
@@ -152,22 +155,24 @@ module _ (name : StreamName) (stream : PlainStream) (made : List Made) (x : Next
   follows (it_waits more reply said calls is) = stays_so (ap (λ (y : Next). is_put y.0) is) (ap (λ (y : Next). y.1) is) (nothing_next more.put) (λ on. ([], ap (λ (ms : List Made). calls_in ms) calls))
   follows (no_place more reply none calls is) = stays_so (ap (λ (y : Next). is_put y.0) is) (ap (λ (y : Next). y.1) is) (nothing_next more.put) (λ on. ([], ap (λ (ms : List Made). calls_in ms) calls))
   follows (a_marker more from reply snapshot placed said calls is) =
-      let comes : x ≡ next.Put (msg.SnapshotMarker snapshot.start snapshot.end (marker_flags snapshot.disk)) (event.Marked name snapshot.start snapshot.end (marker_flags snapshot.disk)) = ap (λ (y : Next). y.0) is in
-      let goes : left ≡ record stream { items = snapshot.items; next = 0; marked = Some snapshot.end } = ap (λ (y : Next). y.1) is in (
+      let start : ℕ = start_sent stream.marked stream.first snapshot.start in
+      let items : List Change = items_sent stream.marked stream.first snapshot.items in
+      let comes : x ≡ next.Put (msg.SnapshotMarker start snapshot.end (marker_flags snapshot.disk)) (event.Marked name start snapshot.end (marker_flags snapshot.disk)) = ap (λ (y : Next). y.0) is in
+      let goes : left ≡ record stream { items = items; next = 0; marked = Some snapshot.end } = ap (λ (y : Next). y.1) is in (
         record {
           item = λ c is_next. absurd (nothing_next more.put c is_next);
           asks = λ on. ((stream.vb, call.Take stream.id) ∷ [], ap (λ (ms : List Made). calls_in ms) calls);
-          marker = λ start end flags line marks.
-              let e : next.Put (msg.SnapshotMarker snapshot.start snapshot.end (marker_flags snapshot.disk)) (event.Marked name snapshot.start snapshot.end (marker_flags snapshot.disk)) ≡ next.Put (msg.SnapshotMarker start end flags) line = sym comes ∙ marks in
-              let a : snapshot.start ≡ start = cc e in
+          marker = λ start' end flags line marks.
+              let e : next.Put (msg.SnapshotMarker start snapshot.end (marker_flags snapshot.disk)) (event.Marked name start snapshot.end (marker_flags snapshot.disk)) ≡ next.Put (msg.SnapshotMarker start' end flags) line = sym comes ∙ marks in
+              let a : start ≡ start' = cc e in
               let b : snapshot.end ≡ end = cc e in
-              (snapshot, reply, (from, said_so from (answer.Placed place.Memory) placed, calls), said_so reply (answer.Taken snapshot) said, sym a, sym b, goes);
-          state = λ told line tells. absurd (let e : next.Put (msg.SnapshotMarker snapshot.start snapshot.end (marker_flags snapshot.disk)) (event.Marked name snapshot.start snapshot.end (marker_flags snapshot.disk)) ≡ next.Put (msg.SetVbucketState told) line = sym comes ∙ tells in cc e);
+              (snapshot, reply, (from, said_so from (answer.Placed place.Memory) placed, calls), said_so reply (answer.Taken snapshot) said, subst (IsStart stream snapshot) a (starts_so stream snapshot), sym b, items, items_so stream snapshot, goes);
+          state = λ told line tells. absurd (let e : next.Put (msg.SnapshotMarker start snapshot.end (marker_flags snapshot.disk)) (event.Marked name start snapshot.end (marker_flags snapshot.disk)) ≡ next.Put (msg.SetVbucketState told) line = sym comes ∙ tells in cc e);
           still = λ out. absurd (subst IsOut comes out);
         },
         record {
           item = λ n m seq sent key puts.
-              absurd (let e : next.Put (msg.SnapshotMarker snapshot.start snapshot.end (marker_flags snapshot.disk)) (event.Marked name snapshot.start snapshot.end (marker_flags snapshot.disk)) ≡ next.Put m (event.Item n seq sent key) = sym comes ∙ puts in cc e);
+              absurd (let e : next.Put (msg.SnapshotMarker start snapshot.end (marker_flags snapshot.disk)) (event.Marked name start snapshot.end (marker_flags snapshot.disk)) ≡ next.Put m (event.Item n seq sent key) = sym comes ∙ puts in cc e);
           else = λ other. ap (λ (s : PlainStream). s.reached) goes;
         },
       )
@@ -207,7 +212,8 @@ module _ (name : StreamName) (stream : PlainStream) where
   unfolding dcp_frame
   end_line_of reason = one_line (dcp_frame (msg.StreamEnd reason) stream.opaque stream.vb, event.Finished name reason) ((refl, refl), refl, refl)
 
-  marker_line_of : (snapshot : Snapshot) → IsOfStream name stream (dcp_frame (msg.SnapshotMarker snapshot.start snapshot.end (marker_flags snapshot.disk)) stream.opaque stream.vb, event.Marked name snapshot.start snapshot.end (marker_flags snapshot.disk))
+  marker_line_of : (snapshot : Snapshot) → let start : ℕ = start_sent stream.marked stream.first snapshot.start in
+      IsOfStream name stream (dcp_frame (msg.SnapshotMarker start snapshot.end (marker_flags snapshot.disk)) stream.opaque stream.vb, event.Marked name start snapshot.end (marker_flags snapshot.disk))
   unfolding dcp_frame
   marker_line_of snapshot = ((refl, refl), refl, refl)
 

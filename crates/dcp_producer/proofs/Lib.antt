@@ -1,4 +1,5 @@
 pub mod OneStream
+pub mod Firsts
 pub mod Framing
 pub mod Handshaking
 pub mod Weighing

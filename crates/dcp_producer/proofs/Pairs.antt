@@ -1,5 +1,5 @@
 -- the frames that a pull puts, each with its line
-use Rattle.std.proofs.Common.{◌≡◌, ◌+◌, ℕ, zero, suc, List, [], ◌∷◌, ◌++◌, length, map, refl, sym, ap, ◌∙◌, subst, inl, inr, append-nil, append_assoc, arith, Some, Option}
+use Rattle.std.proofs.Common.{◌≡◌, ◌+◌, true, false, ℕ, zero, suc, List, [], ◌∷◌, ◌++◌, length, map, refl, sym, ap, ◌∙◌, subst, inl, inr, append-nil, append_assoc, arith, Some, Option}
 use Rattle.std.specs.Prelude.{slice_get}
 use Rattle.std.specs.List.{All, Contains, concat}
 use Rattle.std.proofs.lemmas.List.{length-append, map-append}
@@ -7,6 +7,9 @@ use Rattle.std.proofs.lemmas.List.Elements.{All-contains_itself, All-cons, All-h
 use Rattle.mcbp_frame.specs.Spelling.{spelling}
 use Rattle.mcbp_frame.specs.declared.frame.Frame.{Frame}
 use Rattle.mcbp_dcp.specs.declared.message.DcpMsg.TheVariants as msg
+use Rattle.vb_types.specs.Histories.{plain}
+use Rattle.vb_types.specs.declared.change.Act.{Act}
+use Rattle.vb_types.specs.declared.change.Act.TheVariants as act
 use Rattle.vb_types.specs.declared.change.Change.{Change}
 use Rattle.vb_types.specs.declared.stream.Snapshot.{Snapshot}
 use Rattle.vb_events.specs.declared.event.Event.{Event}
@@ -19,10 +22,12 @@ use Rattle.vb_calls.specs.Programs.{Always, AlwaysWith, AnyCall, AnyReply}
 use Rattle.vb_calls.proofs.Conduct.{always_so}
 use Rattle.dcp_producer.specs.declared.halt.Halt.{Halt}
 use Rattle.dcp_producer.specs.Cuts.{IsShort, pieces}
+use Rattle.dcp_producer.specs.Firsts.{start_sent}
 use Rattle.dcp_producer.specs.Frames.{marker_flags}
 use Rattle.dcp_producer.specs.Pairs.{AnyChange, AreSpelled, GaveSpelled, GivesSpelled, IsOneOf, IsPair, IsSpelledChange, PullsPairs, PutFew}
 use Rattle.dcp_producer.specs.Producers.{PlainProducer, PlainStream, Served}
 use Rattle.dcp_producer.specs.Pulling.{frame_put, frames_put}
+use Rattle.dcp_producer.proofs.Firsts.{all_sent}
 use Rattle.dcp_producer.proofs.Headers.{pieces_are, spelled_short}
 use Rattle.dcp_producer.proofs.Putting.{Lines, Puts, Takes, frames_come}
 
@@ -80,7 +85,7 @@ module _ (replies : VbCall → Option VbReply → Type 0) (calls : ℕ → VbCal
   pairs_told : Lines replies G Line
   pairs_told = record {
     items = λ name stream c is g. inl (stream, g, c, is, refl, refl);
-    markers = λ name stream reply snapshot may is g. inr (inl (stream, g, snapshot.start, snapshot.end, marker_flags snapshot.disk, refl, refl));
+    markers = λ name stream reply snapshot may is g. inr (inl (stream, g, start_sent stream.marked stream.first snapshot.start, snapshot.end, marker_flags snapshot.disk, refl, refl));
     ends = λ name stream reason g. inr (inr (inl (stream, g, reason, refl, refl)));
     states = λ name stream told one g. inr (inr (inr (stream, g, told, one, refl, refl)));
   }
@@ -114,7 +119,8 @@ module _ (replies : VbCall → Option VbReply → Type 0) (calls : ℕ → VbCal
 
 -- ---- of the streams of a connection, by their items
 
-module _ (replies : VbCall → Option VbReply → Type 0) (I : Change → Type 0) (gives : (id : ℕ) (reply : VbReply) (snapshot : Snapshot) → replies (call.Take id) (Some reply) → reply.answer ≡ answer.Taken snapshot → All I snapshot.items) (k : ℕ) (s : Served) where
+module _ (replies : VbCall → Option VbReply → Type 0) (I : Change → Type 0) (gives : (id : ℕ) (reply : VbReply) (snapshot : Snapshot) → replies (call.Take id) (Some reply) → reply.answer ≡ answer.Taken snapshot → All I snapshot.items)
+    (plains : (c : Change) → I c → I (plain c)) (k : ℕ) (s : Served) where
   abbrev One : PlainStream → Type 0
   One stream = IsOneOf I s.end.streams stream
 
@@ -124,7 +130,7 @@ module _ (replies : VbCall → Option VbReply → Type 0) (I : Change → Type 0
     takes = λ stream g. tt;
     closes = λ stream g. tt;
     passed = λ stream c is g. record { known = g.known; one = g.one; id = g.id; vb = g.vb; opaque = g.opaque; items = g.items };
-    marked = λ stream reply snapshot may is g. record { known = g.known; one = g.one; id = g.id; vb = g.vb; opaque = g.opaque; items = gives stream.id reply snapshot may is };
+    marked = λ stream reply snapshot may is g. record { known = g.known; one = g.one; id = g.id; vb = g.vb; opaque = g.opaque; items = all_sent I plains stream.marked stream.first snapshot.items (gives stream.id reply snapshot may is) };
     given = λ stream o g. record { known = g.known; one = g.one; id = g.id; vb = g.vb; opaque = g.opaque; items = g.items };
   }
 
@@ -146,10 +152,22 @@ all_any [] = All-nil (λ (stream : PlainStream). All AnyChange stream.items)
 all_any (x ∷ xs) = All-cons (λ (stream : PlainStream). All AnyChange stream.items) x xs (any_items x.items) (all_any xs)
 
 pub any_pairs : (k : ℕ) (s : Served) → Always AnyCall (PullsPairs (IsOneOf AnyChange s.end.streams) k s) (frames_put k s)
-any_pairs k s = own_pairs AnyReply AnyChange (λ id reply snapshot may is. any_items snapshot.items) k s (all_any s.end.streams)
+any_pairs k s = own_pairs AnyReply AnyChange (λ id reply snapshot may is. any_items snapshot.items) (λ c any. tt) k s (all_any s.end.streams)
+
+-- a commit that is written out has the spelling of what it stands for
+spelled_plain : (c : Change) → IsSpelledChange c → IsSpelledChange (plain c)
+spelled_plain c = by c.act
+  where
+    by : (a : Act) → IsSpelledChange (record { seq = c.seq; key = c.key; act = a }) → IsSpelledChange (plain (record { seq = c.seq; key = c.key; act = a }))
+    by (act.Set doc) is = is
+    by (act.Remove cas rev) is = is
+    by (act.Prepare level doc deleted) is = is
+    by (act.Commit prepared doc true) is = (is.1, is.1)
+    by (act.Commit prepared doc false) is = (is.1, is.1)
+    by (act.Abort prepared) is = is
 
 pub spelled_pairs : (k : ℕ) (s : Served) → AreSpelled s.end.streams → AlwaysWith GivesSpelled AnyCall (PullsPairs (IsOneOf IsSpelledChange s.end.streams) k s) (frames_put k s)
-spelled_pairs k s items = own_pairs GivesSpelled IsSpelledChange (λ id reply snapshot may is. subst GaveSpelled is may) k s items
+spelled_pairs k s items = own_pairs GivesSpelled IsSpelledChange (λ id reply snapshot may is. subst GaveSpelled is may) spelled_plain k s items
 
 -- ---- such frames are cut by their headers
 
@@ -165,7 +183,7 @@ item_of I (x ∷ items) (suc n) c is all = item_of I items n c is (All-tail I x 
 module _ (G : PlainStream → Type 0) (good : SpelledStream G) (name : StreamName) where
   pub pair_short : (pair : Frame × Event) → IsPair G name pair → IsShort pair.0
   pair_short (f, line) (inl (stream, g, c, is, frame, told)) =
-      subst IsShort (sym frame) (spelled_short _ stream.opaque stream.vb (item_of IsSpelledChange stream.items stream.next c is (good.items stream g)))
+      subst IsShort (sym frame) (spelled_short _ stream.opaque stream.vb (item_of IsSpelledChange stream.items stream.next c is (good.items stream g)).0)
   pair_short (f, line) (inr (inl (stream, g, start, end, flags, frame, told))) = subst IsShort (sym frame) (spelled_short (msg.SnapshotMarker start end flags) stream.opaque stream.vb tt)
   pair_short (f, line) (inr (inr (inl (stream, g, reason, frame, told)))) = subst IsShort (sym frame) (spelled_short (msg.StreamEnd reason) stream.opaque stream.vb tt)
   pair_short (f, line) (inr (inr (inr (stream, g, told, one, frame, said)))) = subst IsShort (sym frame) (spelled_short (msg.SetVbucketState told) stream.opaque stream.vb tt)

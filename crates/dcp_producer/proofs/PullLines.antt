@@ -13,6 +13,7 @@ use Rattle.vb_calls.specs.declared.calls.VbCall.TheVariants as call
 use Rattle.vb_calls.specs.Programs.{Always, AnyReply}
 use Rattle.vb_calls.proofs.Conduct.{always_so}
 use Rattle.dcp_producer.specs.declared.halt.Halt.{Halt}
+use Rattle.dcp_producer.specs.Firsts.{start_sent}
 use Rattle.dcp_producer.specs.Frames.{item_line, marker_flags}
 use Rattle.dcp_producer.specs.Pairs.{PutFew}
 use Rattle.dcp_producer.specs.Producers.{PlainProducer, PlainStream, Served}
@@ -56,7 +57,7 @@ module _ (kind : VbCall → Type 0) (L : StreamName → Event → Type 0) (takes
   lines_all : LinesOf AnyReply AnyStream Line
   lines_all = record {
     items = λ name stream c is any. lines.items name c;
-    markers = λ name stream reply snapshot may is any. lines.markers name snapshot.start snapshot.end (marker_flags snapshot.disk);
+    markers = λ name stream reply snapshot may is any. lines.markers name (start_sent stream.marked stream.first snapshot.start) snapshot.end (marker_flags snapshot.disk);
     ends = λ name stream reason any. lines.ends name reason;
     states = λ name stream told one any. lines.states name told;
   }

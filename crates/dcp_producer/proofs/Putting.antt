@@ -32,6 +32,7 @@ use Rattle.dcp_producer.specs.declared.halt.Halt.TheVariants as halt
 use Rattle.dcp_producer.specs.declared.next_frame.NextFrame.TheVariants as next
 use Rattle.dcp_producer.specs.declared.next_frame.Waits.{Waits}
 use Rattle.dcp_producer.specs.declared.next_frame.Waits.TheVariants as wait
+use Rattle.dcp_producer.specs.Firsts.{as_sent, start_sent}
 use Rattle.dcp_producer.specs.Frames.{Next, STATE_CHANGED, alive_next, none_next, role_of, state_next, step_next, act_message, close_sent, item_line, marker_flags, next_by, next_frame, over, past_item, place_requested, place_said, placed_next, reaches_end, take_answered, taken_next, with_snapshot}
 use Rattle.dcp_producer.specs.Pairs.{PutFew}
 use Rattle.dcp_producer.specs.Producers.{PlainProducer, PlainStream, Served, replaced, with_stream, without_id, without_place, without_stream}
@@ -43,14 +44,15 @@ pub record Takes (replies : VbCall → Option VbReply → Type 0) (calls : ℕ �
   pub takes : (stream : PlainStream) → G stream → calls stream.vb (call.Take stream.id)
   pub closes : (stream : PlainStream) → G stream → calls stream.vb (call.CloseStream stream.id)
   pub passed : (stream : PlainStream) (c : Change) → slice_get stream.items stream.next ≡ Some c → G stream → G (past_item c.seq stream)
-  pub marked : (stream : PlainStream) (reply : VbReply) (snapshot : Snapshot) → replies (call.Take stream.id) (Some reply) → reply.answer ≡ answer.Taken snapshot → G stream → G (with_snapshot stream snapshot)
+  pub marked : (stream : PlainStream) (reply : VbReply) (snapshot : Snapshot) → replies (call.Take stream.id) (Some reply) → reply.answer ≡ answer.Taken snapshot → G stream → G (with_snapshot stream (as_sent stream snapshot))
   pub given : (stream : PlainStream) (gives : Option GiveUp) → G stream → G (record stream { gives = gives })
 
 -- so it is with its frames and their lines
 pub record Lines (replies : VbCall → Option VbReply → Type 0) (G : PlainStream → Type 0) (L : StreamName → Frame → Event → Type 0) : Type 0 where
   pub items : (name : StreamName) (stream : PlainStream) (c : Change) → slice_get stream.items stream.next ≡ Some c → G stream → L name (dcp_frame (act_message c c.act) stream.opaque stream.vb) (item_line name c)
   pub markers : (name : StreamName) (stream : PlainStream) (reply : VbReply) (snapshot : Snapshot) → replies (call.Take stream.id) (Some reply) → reply.answer ≡ answer.Taken snapshot → G stream
-      → L name (dcp_frame (msg.SnapshotMarker snapshot.start snapshot.end (marker_flags snapshot.disk)) stream.opaque stream.vb) (event.Marked name snapshot.start snapshot.end (marker_flags snapshot.disk))
+      → L name (dcp_frame (msg.SnapshotMarker (start_sent stream.marked stream.first snapshot.start) snapshot.end (marker_flags snapshot.disk)) stream.opaque stream.vb)
+      (event.Marked name (start_sent stream.marked stream.first snapshot.start) snapshot.end (marker_flags snapshot.disk))
   pub states : (name : StreamName) (stream : PlainStream) (told : Role) → (told ≡ role.Pending) ⊎ (told ≡ role.Active) → G stream → L name (dcp_frame (msg.SetVbucketState told) stream.opaque stream.vb) (event.Stated name told)
   pub ends : (name : StreamName) (stream : PlainStream) (reason : ℕ) → G stream → L name (dcp_frame (msg.StreamEnd reason) stream.opaque stream.vb) (event.Finished name reason)
 

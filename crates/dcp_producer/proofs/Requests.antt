@@ -42,6 +42,7 @@ use Rattle.dcp_producer.specs.Serving.{MOST_STREAMS, gives_of, log_of_answer, lo
 use Rattle.dcp_producer.specs.Handshaking.{IsGiven}
 use Rattle.dcp_producer.specs.Having.{IsOpened, NoneOf, IsStreamOf}
 use Rattle.dcp_producer.specs.Requesting.{AreTaken, IsOutside, IsFree, number_behind, IsAgainst, IsForIt, AnsweredWith, AsksFor, Replies, OneReply, RefusedWith, IsInactive}
+use Rattle.dcp_producer.proofs.Firsts.{means_first}
 use Rattle.dcp_producer.proofs.Finding.{none_at, found_at}
 
 -- the table of reasons, by the tests
@@ -180,7 +181,7 @@ module _ (f : Frame) (ask : StreamAsk) (s : Served) (log : List LogEntry) (high 
     go = λ e. ap said_out e;
     begins = λ e more. (
       new_stream (next_stream s.end) f ask,
-      record { number = refl; vb = refl; opaque = refl; until = refl; items = refl; next = refl; marked = refl; reached = refl; ended = refl; gives = λ one. (new_give_up, ap gives_of one, refl); feeds = λ other. ap (λ b. if b then Some new_give_up else None) (false_from_ne_true (ask.flags == 1) (λ t. other (eqb-true ask.flags 1 t))) },
+      record { number = refl; vb = refl; opaque = refl; until = refl; first = means_first ask; items = refl; next = refl; marked = refl; reached = refl; ended = refl; gives = λ one. (new_give_up, ap gives_of one, refl); feeds = λ other. ap (λ b. if b then Some new_give_up else None) (false_from_ne_true (ask.flags == 1) (λ t. other (eqb-true ask.flags 1 t))) },
       ap opened_end e,
     );
     roll = λ point e. (ap said_out e, ap opened_end e);

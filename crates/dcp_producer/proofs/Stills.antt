@@ -1,7 +1,8 @@
 -- a stream that is quiet, over plain vBuckets: it changes nothing, and it is quiet again as long as its own vBucket stays as it is
-use Rattle.std.proofs.Common.{◌≡◌, ℕ, Bool, true, false, refl, sym, ap, ◌∙◌, subst, Option, Some, None}
+use Rattle.std.proofs.Common.{◌≡◌, ◌⊎◌, ℕ, Bool, true, false, map, inl, inr, refl, sym, ap, ◌∙◌, subst, arith, Option, Some, None}
 use Rattle.std.specs.Prelude.{◌==◌, if◌then◌else◌, slice_get}
-use Rattle.std.proofs.lemmas.Bool.{eqb-true}
+use Rattle.std.proofs.lemmas.Bool.{eqb-true, eq-eqb}
+use Rattle.std.proofs.lemmas.Bool.Decides.{nat_tests}
 use Rattle.vb_types.specs.declared.change.Change.{Change}
 use Rattle.vb_types.specs.declared.stream.Place.{Place}
 use Rattle.vb_types.specs.declared.stream.Place.TheVariants as place
@@ -19,23 +20,16 @@ use Rattle.vb_calls.specs.declared.stream.Stream.{Stream}
 use Rattle.vb_calls.specs.Plain.{Plain, plain_step}
 use Rattle.vb_calls.specs.Spans.{all_spans}
 use Rattle.vb_calls.specs.States.{States, call_at, states_step, with_vb_at}
-use Rattle.vb_calls.specs.Streams.{end_span, is_in_memory, place_row, stream_at, take_from, take_to}
+use Rattle.vb_calls.specs.Streams.{end_span, given_cursor, is_in_memory, place_from, placed_by, stream_at, take_from, take_to}
 use Rattle.vb_calls.specs.Programs.{Prog, Done, Call, after, AnyCall, Always}
 use Rattle.vb_calls.proofs.Conduct.{after_always, after_elsewhere}
+use Rattle.vb_calls.proofs.Placing.{found_id, place_again, with_itself}
 use Rattle.dcp_producer.specs.declared.next_frame.NextFrame.TheVariants as next
 use Rattle.dcp_producer.specs.declared.next_frame.Waits.{Waits}
-use Rattle.dcp_producer.specs.Frames.{Next, STATE_CHANGED, alive_next, none_next, role_of, state_next, step_next, close_sent, next_by, next_frame, over, place_requested, place_said, place_told, placed_next, reaches_end, take_answered, taken_next}
-use Rattle.dcp_producer.specs.AskingAll.{StaysQuiet}
+use Rattle.dcp_producer.specs.Frames.{Next, ALL_SENT, STATE_CHANGED, alive_next, none_next, role_of, state_next, step_next, close_sent, next_by, next_frame, over, place_requested, place_said, placed_next, reaches_end, take_answered, taken_next}
+use Rattle.dcp_producer.specs.AskingAll.{GivesCursor, StaysQuiet}
 use Rattle.dcp_producer.specs.Producers.{PlainStream}
 use Rattle.dcp_producer.proofs.Framing.{GoesOn, frame_same}
-
--- a vBucket that is put where it stands
-with_itself : (states : States) (v : ℕ) (vb : Plain) → states v ≡ Some vb → with_vb_at states v vb ≡ states
-with_itself states v vb is = λ i w. by w (w == v) refl i
-  where
-    by : (w : ℕ) (b : Bool) → (w == v) ≡ b → (if b then Some vb else states w) ≡ states w
-    by w true e = sym is ∙ ap states (sym (eqb-true w v e))
-    by w false e = refl
 
 -- what a stream that is quiet leaves: the vBuckets and itself as they were
 abbrev LeavesAll : States → PlainStream → States × Next → Type 0
@@ -70,57 +64,111 @@ module _ (name : StreamName) (stream : PlainStream) (states : States) where
 
       by : (o : Option Stream) → LeavesAll states stream (with_vb_at states v (take_from o vb).0, taken_next name stream (take_from o vb).1.answer)
       by None = tt
-      by (Some s) = given s (if is_in_memory vb.floor s then end_span s (all_spans vb.spans) vb.held else None)
+      by (Some s) = given s (if s.cursor then end_span s (all_spans vb.spans) vb.held else None)
 
   placed : (from : Option Place) → LeavesAll states stream (after (placed_next name stream from) states)
   placed None = tt
   placed (Some place.Memory) = taken (states v) refl
   placed (Some place.WaitSaved) = (refl, refl)
 
-  asked : (o : Option Plain) → states v ≡ o → LeavesAll states stream (after (placed_next name stream (place_said (call_at states v (call.Place id) o).1)) (call_at states v (call.Place id) o).0)
-  asked None there = tt
-  asked (Some vb) there =
-      let from : Option Place = place_told (place_row vb id).answer in
-      subst (λ (left : States). LeavesAll states stream (after (placed_next name stream from) left)) (sym (with_itself states v vb there)) (placed from)
+-- ---- a stream that is quiet
 
-  reached : (b : Bool) → LeavesAll states stream (after (if b then close_sent stream else place_requested name stream) states)
-  reached true = tt
-  reached false = asked (states v) refl
+-- its vBucket may have given it a cursor
+abbrev pub MayGive : PlainStream → States → States → Type 0
+MayGive stream states left = (left ≡ states) ⊎ GivesCursor stream states left
 
-  steps : (g : GiveUp) (s : GiveStep) → LeavesAll states stream (after (step_next name stream g s) states)
-  steps g step.SendAll = asked (states v) refl
-  steps g step.SendPending = tt
-  steps g step.AwaitPending = (refl, refl)
-  steps g step.Yield = (refl, refl)
-  steps g step.SendRest = asked (states v) refl
-  steps g step.SendActive = tt
-  steps g step.AwaitActive = (refl, refl)
-  steps g step.End = tt
+-- where it is asked where its changes come from
+module _ (stream : PlainStream) (states : States) where
+  may_give : MayGive stream states (states_step states stream.vb (call.Place stream.id)).0
+  may_give = by (states stream.vb) refl
+    where
+      given : (vb : Plain) → states stream.vb ≡ Some vb → (s : Stream) → stream_at stream.id vb.streams ≡ Some s → (c m : Bool) → s.cursor ≡ c → is_in_memory vb s.place ≡ m
+          → MayGive stream states (with_vb_at states stream.vb (placed_by c m s vb).0)
+      given vb there s e true m has at = inl (with_itself states stream.vb vb there)
+      given vb there s e false false has at = inl (with_itself states stream.vb vb there)
+      given vb there s e false true has at = inr (record {
+        vb = vb;
+        vb_is = there;
+        open_one = (s, e, has, grind (arith, nat_tests, at));
+        given = ap (λ n. with_vb_at states stream.vb (record vb { streams = map (given_cursor n) vb.streams })) (found_id stream.id vb.streams s e);
+      })
 
-  alive : (o : Option GiveUp) → LeavesAll states stream (after (alive_next name stream o) states)
+      found : (vb : Plain) → states stream.vb ≡ Some vb → (o : Option Stream) → stream_at stream.id vb.streams ≡ o → MayGive stream states (with_vb_at states stream.vb (place_from o vb).0)
+      found vb there None e = inl (with_itself states stream.vb vb there)
+      found vb there (Some s) e = given vb there s e s.cursor (is_in_memory vb s.place) refl refl
+
+      by : (o : Option Plain) → states stream.vb ≡ o → MayGive stream states (call_at states stream.vb (call.Place stream.id) o).0
+      by None there = inl refl
+      by (Some vb) there = found vb there (stream_at stream.id vb.streams) refl
+
+-- so it is as it was, and so are the vBuckets but for that; and over those that are left it is quiet so again, and nothing changes
+pub record QuietSo (stream : PlainStream) (prog : Prog Next) (states left : States) (waits : Waits) (s : PlainStream) : Type 0 where
+  pub itself : s ≡ stream
+  pub gives : MayGive stream states left
+  pub again : after prog left ≡ (left, (next.Quiet waits, s))
+
+abbrev pub Quietly : PlainStream → Prog Next → States → Type 0
+Quietly stream prog states = (left : States) (waits : Waits) (s : PlainStream) → after prog states ≡ (left, (next.Quiet waits, s)) → QuietSo stream prog states left waits s
+
+module _ (name : StreamName) (stream : PlainStream) (states : States) where
+  -- one that makes no call
+  none_called : (x : Next) → LeavesAll states stream (states, x) → Quietly stream (Done x) states
+  none_called x leaves left waits s is =
+      let (same, itself) = subst (LeavesAll states stream) is leaves in
+      record {
+        itself = itself;
+        gives = inl same;
+        again = λ i. (left, (is i).1);
+      }
+
+  asked : Quietly stream (place_requested name stream) states
+  asked left waits s is =
+      let placed_at : States × Option VbReply = states_step states stream.vb (call.Place stream.id) in
+      let (same, itself) = subst (LeavesAll placed_at.0 stream) is (placed name stream placed_at.0 (place_said placed_at.1)) in
+      let once_more = place_again states stream.vb stream.id in
+      record {
+        itself = itself;
+        gives = subst (MayGive stream states) (sym same) (may_give stream states);
+        again = ap (after (place_requested name stream)) same
+            ∙ (λ i. after (placed_next name stream (place_said (once_more i).1)) (once_more i).0)
+            ∙ is;
+      }
+
+  reached : (b : Bool) → Quietly stream (if b then close_sent stream else place_requested name stream) states
+  reached true = λ left waits s is. let z : next.End ALL_SENT ≡ next.Quiet waits = ap (λ (y : States × Next). y.1.0) is in cc
+  reached false = asked
+
+  steps : (g : GiveUp) (s : GiveStep) → Quietly stream (step_next name stream g s) states
+  steps g step.SendAll = asked
+  steps g step.SendPending = none_called _ tt
+  steps g step.AwaitPending = none_called _ (refl, refl)
+  steps g step.Yield = none_called _ (refl, refl)
+  steps g step.SendRest = asked
+  steps g step.SendActive = none_called _ tt
+  steps g step.AwaitActive = none_called _ (refl, refl)
+  steps g step.End = reached true
+
+  alive : (o : Option GiveUp) → Quietly stream (alive_next name stream o) states
   alive None = reached (reaches_end stream.until stream.marked)
   alive (Some g) = steps g g.step
 
-  ended : (b : Bool) → LeavesAll states stream (after (if b then Done (over STATE_CHANGED stream) else alive_next name stream stream.gives) states)
-  ended true = tt
+  ended : (b : Bool) → Quietly stream (if b then Done (over STATE_CHANGED stream) else alive_next name stream stream.gives) states
+  ended true = none_called (over STATE_CHANGED stream) tt
   ended false = alive stream.gives
 
-  items : (item : Option Change) → LeavesAll states stream (after (next_by name stream item) states)
+  items : (item : Option Change) → Quietly stream (next_by name stream item) states
   items None = ended stream.ended
-  items (Some c) = tt
+  items (Some c) = none_called _ tt
 
-  leaves_all : LeavesAll states stream (after (next_frame name stream) states)
+  -- a stream that is quiet changes nothing, but that its vBucket may give it a cursor; and asked again, it is quiet so
+  pub quiet_so : Quietly stream (next_frame name stream) states
   unfolding next_frame
-  leaves_all = items (slice_get stream.items stream.next)
-
-  -- a stream that is quiet changes nothing
-  pub quiet_leaves : (left : States) (waits : Waits) (s : PlainStream) → after (next_frame name stream) states ≡ (left, (next.Quiet waits, s)) → (left ≡ states) × (s ≡ stream)
-  quiet_leaves left waits s is = subst (LeavesAll states stream) is leaves_all
+  quiet_so = items (slice_get stream.items stream.next)
 
 -- ---- a stream calls its own vBucket alone
 
 abbrev AtOnly : ℕ → ℕ → VbCall → Type 0
-AtOnly v w asked = w ≡ v
+AtOnly v w called = w ≡ v
 
 abbrev Any : Next → Type 0
 Any next = Unit {0}
@@ -188,6 +236,15 @@ step_same a b v w asked at same = by (a w) ∙ ap (λ o. (call_at b w asked o).0
     by None = same
     by (Some vb) = ap (λ o. if v == w then Some (plain_step vb asked).0 else o) same
 
+-- it leaves that one the same where it is the same
+own_after : {A : Type 0} (v : ℕ) (answers : A → Type 0) (prog : Prog A) (a b : States) → Always (AtOnly v) answers prog → a v ≡ b v → (after prog a).0 v ≡ (after prog b).0 v
+own_after v answers (Done x) a b always same = same
+own_after v answers (Call w asked next) a b always same =
+    let x : States × Option VbReply = states_step a w asked in
+    let y : States × Option VbReply = states_step b w asked in
+    own_after v answers (next x.1) x.0 y.0 (always.1 x.1 tt) (step_same a b v w asked always.0 same)
+    ∙ ap (λ reply. (after (next reply) y.0).0 v) (reply_same a b v w asked always.0 same)
+
 -- it comes to the same where that one is the same
 after_own : {A : Type 0} (v : ℕ) (answers : A → Type 0) (prog : Prog A) (a b : States) → Always (AtOnly v) answers prog → a v ≡ b v → (after prog a).1 ≡ (after prog b).1
 after_own v answers (Done x) a b always same = refl
@@ -211,8 +268,14 @@ module _ (name : StreamName) (stream : PlainStream) where
       let x : States × Next = after (next_frame name stream) b in
       let comes : x.1 ≡ (next.Quiet waits, stream) = sym (same_next a b same) ∙ ap (λ (y : States × Next). y.1) is in
       let whole : x ≡ (x.0, (next.Quiet waits, stream)) = λ i. (x.0, comes i) in
-      let left : x.0 ≡ b = (quiet_leaves name stream b x.0 waits stream whole).0 in
+      let kept : x.0 stream.vb ≡ b stream.vb =
+      own_after stream.vb Any (next_frame name stream) b a (own name stream) (sym same) ∙ ap (λ (y : States × Next). y.0 stream.vb) is ∙ same in
+      let left : x.0 ≡ b = λ i w. by x.0 kept (elsewhere name stream b) w (w == stream.vb) refl i in
       whole ∙ (λ i. (left i, (next.Quiet waits, stream)))
+    where
+      by : (left : States) → left stream.vb ≡ b stream.vb → ((w : ℕ) → (w ≡ stream.vb → ⊥) → left w ≡ b w) → (w : ℕ) (own_one : Bool) → (w == stream.vb) ≡ own_one → left w ≡ b w
+      by left kept others w true e = let at : w ≡ stream.vb = eqb-true w stream.vb e in ap left at ∙ kept ∙ ap b (sym at)
+      by left kept others w false e = others w (λ at. let z : true ≡ false = sym (eq-eqb w stream.vb at) ∙ e in cc)
 
   -- the same, whether it waits or not
   abbrev pub IsStill : States → Type 0
@@ -223,9 +286,9 @@ module _ (name : StreamName) (stream : PlainStream) where
 
   pub stays_quiet : (states : States) → StaysQuiet name stream states
   stays_quiet states = record {
-    still = λ waits behind left is. quiet_leaves name stream states behind waits left is;
+    still = λ waits behind left is. let q = quiet_so name stream states behind waits left is in (q.itself, q.gives);
     again = λ waits behind left is now same.
-        let (kept, itself) = quiet_leaves name stream states behind waits left is in
-        again_so states now waits (sym same) (is ∙ (λ i. (kept i, (next.Quiet waits, itself i))));
+        let q = quiet_so name stream states behind waits left is in
+        again_so behind now waits (sym same) (q.again ∙ (λ i. (behind, (next.Quiet waits, q.itself i))));
     apart = elsewhere name stream states;
   }

@@ -1,8 +1,11 @@
 -- a pull that asks everybody: for each frame each stream is asked anew, also one that put none before, in words beside the definitions
-use Rattle.std.specs.Prelude.{ℕ, zero, suc, ◌≡◌, ◌≢◌, ◌==◌, if◌then◌else◌, List, [], ◌∷◌, Option, Some, None}
+use Rattle.std.specs.Prelude.{ℕ, zero, suc, ◌≡◌, ◌≢◌, ◌⊎◌, ◌≤◌, ◌==◌, true, false, if◌then◌else◌, List, [], ◌∷◌, map, Option, Some, None}
 use Rattle.mcbp_dcp.specs.DcpFrames.{dcp_frame}
 use Rattle.vb_events.specs.declared.event.StreamName.{StreamName}
-use Rattle.vb_calls.specs.States.{States}
+use Rattle.vb_calls.specs.declared.stream.Stream.{Stream}
+use Rattle.vb_calls.specs.Plain.{Plain}
+use Rattle.vb_calls.specs.States.{States, with_vb_at}
+use Rattle.vb_calls.specs.Streams.{memory_from, stream_at}
 use Rattle.vb_calls.specs.Programs.{Prog, Done, bind, after}
 use Rattle.flow_control.specs.Windows.{is_open}
 use Rattle.dcp_producer.specs.declared.halt.Halt.{Halt}
@@ -53,9 +56,16 @@ all_asked (suc k) s = if is_open s.end.window then bind (each_asked (turns_of s.
 abbrev pub IsAsIfAllAsked : ℕ → Served → States → Type 0
 IsAsIfAllAsked k s states = after (frames_put k s) states ≡ after (all_asked k s) states
 
--- the reasons: a stream that is quiet leaves its vBucket, all others and itself as they are, and asked again it is quiet in the same way as long as its own vBucket is the same; and whatever a stream's turn comes to, it changes no other vBucket
+-- the vBucket of a stream that has no cursor there, and is served from memory: it has one now, and all else is as it was
+pub record GivesCursor (stream : PlainStream) (states behind : States) : Type 0 where
+  pub vb : Plain
+  pub vb_is : states stream.vb ≡ Some vb
+  pub open_one : (s : Stream) × (stream_at stream.id vb.streams ≡ Some s) × (s.cursor ≡ false) × (memory_from vb ≤ s.place)
+  pub given : behind ≡ with_vb_at states stream.vb (record vb { streams = map (λ (s : Stream). if s.id == stream.id then record s { cursor = true } else s) vb.streams })
+
+-- the reasons: a stream that is quiet leaves all vBuckets and itself as they are, but for a cursor that its vBucket gave it; asked again it is quiet in the same way, and changes nothing at all, as long as its own vBucket is the one that it left; and whatever a stream's turn comes to, it changes no other vBucket
 pub record StaysQuiet (name : StreamName) (stream : PlainStream) (states : States) : Type 0 where
-  pub still : (for : Waits) (behind : States) (left : PlainStream) → after (next_frame name stream) states ≡ (behind, (next.Quiet for, left)) → (behind ≡ states) × (left ≡ stream)
+  pub still : (for : Waits) (behind : States) (left : PlainStream) → after (next_frame name stream) states ≡ (behind, (next.Quiet for, left)) → (left ≡ stream) × ((behind ≡ states) ⊎ GivesCursor stream states behind)
   pub again : (for : Waits) (behind : States) (left : PlainStream) → after (next_frame name stream) states ≡ (behind, (next.Quiet for, left))
-      → (now : States) → now stream.vb ≡ states stream.vb → after (next_frame name stream) now ≡ (now, (next.Quiet for, stream))
+      → (now : States) → now stream.vb ≡ behind stream.vb → after (next_frame name stream) now ≡ (now, (next.Quiet for, stream))
   pub apart : (v : ℕ) → v ≢ stream.vb → (after (next_frame name stream) states).0 v ≡ states v

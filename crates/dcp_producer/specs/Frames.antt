@@ -33,6 +33,7 @@ use Rattle.dcp_producer.specs.declared.next_frame.NextFrame.{NextFrame}
 use Rattle.dcp_producer.specs.declared.next_frame.NextFrame.TheVariants as next
 use Rattle.dcp_producer.specs.declared.next_frame.Waits.{Waits}
 use Rattle.dcp_producer.specs.declared.next_frame.Waits.TheVariants as waits
+use Rattle.dcp_producer.specs.Firsts.{as_sent}
 use Rattle.dcp_producer.specs.Producers.{PlainStream}
 
 -- a flag as a number
@@ -160,9 +161,9 @@ abbrev pub none_next : StreamName → PlainStream → Option GiveUp → Next
 none_next name stream None = quiet waits.Nothing stream
 none_next name stream (Some g) = state_next name stream (done g) (role_of (done g).step)
 
--- the snapshot of an answer, or none where there is none yet. A vBucket that knows nothing of the stream ends it
+-- the snapshot of an answer, as the stream sends it, or none where there is none yet. A vBucket that knows nothing of the stream ends it
 abbrev pub taken_next : StreamName → PlainStream → VbAnswer → Next
-taken_next name stream (answer.Taken snapshot) = marker_next name stream snapshot
+taken_next name stream (answer.Taken snapshot) = marker_next name stream (as_sent stream snapshot)
 taken_next name stream answer.Nothing = none_next name stream stream.gives
 taken_next name stream other = over STATE_CHANGED stream
 

@@ -20,6 +20,7 @@ use Rattle.vb_calls.specs.Programs.{Made}
 use Rattle.dcp_producer.specs.declared.halt.Halt.{Halt}
 use Rattle.dcp_producer.specs.declared.next_frame.NextFrame.{NextFrame}
 use Rattle.dcp_producer.specs.declared.next_frame.NextFrame.TheVariants as next
+use Rattle.dcp_producer.specs.FirstMarkers.{AreItems, IsStart}
 use Rattle.dcp_producer.specs.Producers.{PlainStream, Served}
 use Rattle.dcp_producer.specs.Endings.{calls_in}
 use Rattle.dcp_producer.specs.Ends.{IsSaid, AsksOn, AskedTake}
@@ -32,13 +33,14 @@ use Rattle.dcp_producer.specs.Turns.{Tried, put_by}
 abbrev pub IsLarger : ℕ → ℕ → ℕ → Type 0
 IsLarger a b n = ((b ≤ a) × (n ≡ a)) ⊎ ((a < b) × (n ≡ b))
 
--- how a stream goes on: behind an item, which needs no call, one item further; behind the last one, where no end is due, its vBucket is asked first where the next changes come from; a marker is that of the snapshot that it gave then, whose items begin; behind a state all but how far the stream gives its vBucket up is as it was; and a stream that is quiet or over stays as it was
+-- how a stream goes on: behind an item, which needs no call, one item further; behind the last one, where no end is due, its vBucket is asked first where the next changes come from; a marker is that of the snapshot that it gave then, as the stream sends it, whose items begin; behind a state all but how far the stream gives its vBucket up is as it was; and a stream that is quiet or over stays as it was
 pub record FollowsSo (stream : PlainStream) (made : List Made) (comes : NextFrame) (left : PlainStream) : Type 0 where
   pub item : (c : Change) → IsNext stream c → (made ≡ []) × (left ≡ record stream { next = stream.next + 1; reached = left.reached })
   pub asks : AsksOn stream → (more : List (ℕ × VbCall)) × (calls_in made ≡ (stream.vb, call.Place stream.id) ∷ more)
   pub marker : (start end flags : ℕ) (line : Event) → comes ≡ next.Put (msg.SnapshotMarker start end flags) line
       → (snapshot : Snapshot) × (reply : Option VbReply) × AskedTake stream made reply × IsSaid reply (answer.Taken snapshot)
-      × (start ≡ snapshot.start) × (end ≡ snapshot.end) × (left ≡ record stream { items = snapshot.items; next = 0; marked = Some snapshot.end })
+      × IsStart stream snapshot start × (end ≡ snapshot.end)
+      × (items : List Change) × AreItems stream snapshot items × (left ≡ record stream { items = items; next = 0; marked = Some snapshot.end })
   pub state : (told : Role) (line : Event) → comes ≡ next.Put (msg.SetVbucketState told) line → left ≡ record stream { gives = left.gives }
   pub still : IsOut comes → left ≡ stream
 

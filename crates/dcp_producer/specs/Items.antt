@@ -19,6 +19,7 @@ use Rattle.vb_calls.specs.declared.calls.VbAnswer.TheVariants as answer
 use Rattle.vb_calls.specs.declared.calls.VbReply.{VbReply}
 use Rattle.vb_calls.specs.Programs.{Done, Turn, Stop}
 use Rattle.dcp_producer.specs.Producers.{PlainStream, Served}
+use Rattle.dcp_producer.specs.FirstMarkers.{IsStart}
 use Rattle.dcp_producer.specs.Frames.{Next, marker_next, over, take_answered}
 use Rattle.dcp_producer.specs.Pulling.{Pulling, QuietOnes, came, pull_of, stream_asked}
 
@@ -36,14 +37,16 @@ turn_of_it a next = came a.served a.quiet next
 abbrev pub IsSource : Bool → ℕ → Type 0
 IsSource disk flags = ((disk ≡ false) × (flags ≡ 1)) ⊎ ((disk ≡ true) × (flags ≡ 2))
 
--- what a snapshot that the vBucket gave comes to: its marker, in a frame and a line with the same numbers, and the stream's turn is over
+-- what a snapshot that the vBucket gave comes to: its marker, in a frame and a line with the same numbers, START as the stream sends it, and the stream's turn is over
 pub record MarkerOf (a : Asking) (snapshot : Snapshot) (turn : Turn Pulling Pulling) : Type 0 where
   pub then : Served
   pub goes_on : turn ≡ Stop (pull_of then a.quiet)
+  pub start : ℕ
+  pub starts : IsStart a.stream snapshot start
   pub flags : ℕ
   pub source : IsSource snapshot.disk flags
-  pub line : then.events ≡ a.served.events ++ event.Marked a.served.end.desk.stream snapshot.start snapshot.end flags ∷ []
-  pub frame : then.out ≡ a.served.out ++ spelling (dcp_frame (msg.SnapshotMarker snapshot.start snapshot.end flags) a.stream.opaque a.stream.vb)
+  pub line : then.events ≡ a.served.events ++ event.Marked a.served.end.desk.stream start snapshot.end flags ∷ []
+  pub frame : then.out ≡ a.served.out ++ spelling (dcp_frame (msg.SnapshotMarker start snapshot.end flags) a.stream.opaque a.stream.vb)
 
 -- each snapshot that a take is answered with comes to its marker
 abbrev pub MarksSnapshots : Type 0

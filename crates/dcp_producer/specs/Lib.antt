@@ -1,6 +1,7 @@
 pub mod Producers
 pub mod Sizes
 pub mod Serving
+pub mod Firsts
 pub mod Frames
 pub mod Pulling
 pub mod Ending
@@ -21,6 +22,8 @@ pub mod Taking
 pub mod Pulls
 pub mod Takeovers
 pub mod Moves
+pub mod FirstMarkers
+pub mod FirstRows
 pub mod Going
 pub mod Apart
 pub mod Orders

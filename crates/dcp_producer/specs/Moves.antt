@@ -48,7 +48,7 @@ gives_then start end seqs =
 
 -- a stream of the vBucket 3, with the opaque 9 and the requested end 0, that gives it up and is in this step, with removals of these seqnos to put, which a change of role ended or did not end
 abbrev pub moving : GiveStep → List ℕ → Bool → PlainStream
-moving s seqs ended = record { id = 7; vb = 3; opaque = 9; until = 0; items = map removal seqs; next = 0; marked = None; reached = 0; ended = ended; gives = Some (record { step = s }) }
+moving s seqs ended = record { id = 7; vb = 3; opaque = 9; until = 0; first = record { start = 0; as_sets = false }; items = map removal seqs; next = 0; marked = None; reached = 0; ended = ended; gives = Some (record { step = s }) }
 
 -- a pull of nine frames of it, and that its vBucket is given up in front of one of so many
 abbrev pub pulled : PlainStream → Prog (Served × Halt)
@@ -96,7 +96,7 @@ pub record TakesOverInRows : Type 0 where
   pub unsent : Gives 9 (moving step.Yield (8 ∷ []) false) [] [] (moving step.Yield (8 ∷ []) false ∷ []) []
   pub ended : Gives 9 (moving step.Yield [] true) [] [] (moving step.Yield [] true ∷ []) []
   pub refused : Gives 9 (moving step.Yield [] false) (says (answer.Status status.NotMyVbucket) ∷ []) ((3, call.Yield 7) ∷ []) (moving step.Yield [] true ∷ []) []
-  pub rest : Pulls (moving step.SendRest [] false) (gives_then 2 3 (3 ∷ [])) (mark_line 2 3 ∷ item_of 3 ∷ state_line role.Active ∷ []) (3, halt.WaitState)
+  pub rest : Pulls (record (moving step.SendRest [] false) { marked = Some 2 }) (gives_then 2 3 (3 ∷ [])) (mark_line 2 3 ∷ item_of 3 ∷ state_line role.Active ∷ []) (3, halt.WaitState)
       ((3, call.Place 7) ∷ (3, call.Take 7) ∷ (3, call.Place 7) ∷ (3, call.Take 7) ∷ []) (in_step step.AwaitActive)
   pub active_heard : heard 9 (moving step.AwaitActive [] false) ≡ moving step.End [] false
   pub over : Pulls (moving step.End [] false) [] (end_line 0 ∷ []) (1, halt.Idle) ((3, call.CloseStream 7) ∷ []) []

@@ -5,6 +5,7 @@ use Rattle.mcbp_frame.specs.Spelling.{spelling}
 use Rattle.mcbp_frame.specs.declared.frame.Frame.{Frame}
 use Rattle.mcbp_dcp.specs.DcpFrames.{IsSpelled, dcp_frame}
 use Rattle.mcbp_dcp.specs.declared.message.DcpMsg.TheVariants as msg
+use Rattle.vb_types.specs.Histories.{plain_act}
 use Rattle.vb_types.specs.declared.change.Change.{Change}
 use Rattle.vb_types.specs.declared.role.Role.{Role}
 use Rattle.vb_types.specs.declared.role.Role.TheVariants as role
@@ -83,9 +84,9 @@ pub record IsOneOf (I : Change → Type 0) (streams : List PlainStream) (stream 
   pub opaque : stream.opaque ≡ known.opaque
   pub items : All I stream.items
 
--- the message of a change has a spelling
+-- the message of a change has a spelling, and so has that of the set or removal that a commit stands for
 abbrev pub IsSpelledChange : Change → Type 0
-IsSpelledChange c = IsSpelled (act_message c c.act)
+IsSpelledChange c = IsSpelled (act_message c c.act) × IsSpelled (act_message c (plain_act c.act))
 
 -- so has each of these streams' items
 abbrev pub AreSpelled : List PlainStream → Type 0

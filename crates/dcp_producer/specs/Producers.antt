@@ -11,6 +11,7 @@ use Rattle.dcp_producer.specs.declared.active_stream.StreamState.TheVariants as 
 use Rattle.dcp_producer.specs.declared.desk.Desk.{Desk}
 use Rattle.dcp_producer.specs.declared.desk.Handshake.{Handshake}
 use Rattle.dcp_producer.specs.declared.desk.Handshake.TheVariants as handshake
+use Rattle.dcp_producer.specs.declared.first.First.{First}
 use Rattle.dcp_producer.specs.declared.desk.Named.{Named}
 use Rattle.dcp_producer.specs.declared.desk.Named.TheVariants as named
 use Rattle.vb_calls.specs.declared.calls.Resolved.{Resolved}
@@ -23,12 +24,13 @@ abbrev pub is_ended : StreamState → Bool
 is_ended state.Memory = false
 is_ended state.Ended = true
 
--- a stream: the number under which its vBucket opened it, of which vBucket it is, with which opaque its frames go, the end that its consumer asked for; the snapshot that was taken last, how many of its items have been put, and the END of its marker, if any was sent; the last seqno that its consumer may have (the requested start, or that of the last item that was put where it is greater), whether a change of role ended it, and, of one that gives its vBucket up to its consumer's, how far that is
+-- a stream: the number under which its vBucket opened it, of which vBucket it is, with which opaque its frames go, the end that its consumer asked for, and how its first snapshot is sent; the snapshot that was taken last, how many of its items have been put, and the END of its marker, if any was sent; the last seqno that its consumer may have (the requested start, or that of the last item that was put where it is greater), whether a change of role ended it, and, of one that gives its vBucket up to its consumer's, how far that is
 pub record PlainStream : Type 0 where
   pub id : ℕ
   pub vb : ℕ
   pub opaque : ℕ
   pub until : ℕ
+  pub first : First
   pub items : List Change
   pub next : ℕ
   pub marked : Option ℕ

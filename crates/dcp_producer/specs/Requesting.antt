@@ -25,6 +25,7 @@ use Rattle.dcp_producer.specs.Handshaking.{IsGiven}
 use Rattle.dcp_producer.specs.Having.{IsOpened, NoneOf, IsStreamOf}
 use Rattle.dcp_producer.specs.Counting.{IsClients, IsLinks}
 use Rattle.dcp_producer.specs.Ends.{IsAt}
+use Rattle.dcp_producer.specs.FirstMarkers.{MeansFirst}
 use Rattle.dcp_producer.specs.Serving.{stream_request}
 
 -- the number of the stream that the connection asks for behind so many: the base of its desk above 32 bits, and then 1, 2, 3 and so on
@@ -37,6 +38,7 @@ pub record Begins (id : ℕ) (f : Frame) (ask : StreamAsk) (stream : PlainStream
   pub vb : stream.vb ≡ f.vb_or_status
   pub opaque : stream.opaque ≡ f.opaque
   pub until : stream.until ≡ ask.end
+  pub first : MeansFirst ask stream.first
   pub items : stream.items ≡ []
   pub next : stream.next ≡ 0
   pub marked : stream.marked ≡ None

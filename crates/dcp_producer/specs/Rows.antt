@@ -8,7 +8,11 @@ use Rattle.vb_events.specs.declared.event.ItemAct.TheVariants as item_act
 use Rattle.vb_events.specs.declared.event.StreamName.TheVariants as name
 use Rattle.vb_calls.specs.declared.calls.VbCall.{VbCall}
 use Rattle.vb_calls.specs.declared.calls.VbCall.TheVariants as call
+use Rattle.vb_calls.specs.declared.calls.VbAnswer.{VbAnswer}
+use Rattle.vb_calls.specs.declared.calls.VbAnswer.TheVariants as answer
 use Rattle.vb_calls.specs.Programs.{Prog, Done, Call}
+use Rattle.vb_calls.specs.State.{quiet_reply}
+use Rattle.vb_types.specs.declared.stream.Place.TheVariants as place
 use Rattle.flow_control.specs.Windows.{new_window}
 use Rattle.dcp_producer.specs.declared.desk.Desk.{Desk}
 use Rattle.dcp_producer.specs.declared.desk.Handshake.TheVariants as handshake
@@ -59,7 +63,7 @@ later = record { seq = 8; key = 98 ∷ []; act = act.Abort 4 }
 
 -- a stream of the vBucket 3 with both, of which so many were put, and which a change of role ended or did not end
 abbrev pub some_stream : ℕ → ℕ → Bool → PlainStream
-some_stream next reached ended = record { id = 7; vb = 3; opaque = 9; until = 99; items = earlier ∷ later ∷ []; next = next; marked = Some 8; reached = reached; ended = ended; gives = None }
+some_stream next reached ended = record { id = 7; vb = 3; opaque = 9; until = 99; first = record { start = 0; as_sets = false }; items = earlier ∷ later ∷ []; next = next; marked = Some 8; reached = reached; ended = ended; gives = None }
 
 -- a pull of so many frames of it alone, which has its turn first or last
 abbrev pub pull_of_it : ℕ → PlainStream → Prog (Served × Halt)
@@ -113,7 +117,7 @@ abbrev pub removal : ℕ → Change
 removal seq = record { seq = seq; key = 97 ∷ []; act = act.Remove 50 1 }
 
 abbrev pub stream_of : ℕ → ℕ → ℕ → List ℕ → PlainStream
-stream_of id until end seqs = record { id = id; vb = id; opaque = 9; until = until; items = map removal seqs; next = 0; marked = Some end; reached = 0; ended = false; gives = None }
+stream_of id until end seqs = record { id = id; vb = id; opaque = 9; until = until; first = record { start = 0; as_sets = false }; items = map removal seqs; next = 0; marked = Some end; reached = 0; ended = false; gives = None }
 
 -- the removals of these seqnos were put, in this order
 abbrev pub item_of : ℕ → Event
@@ -159,3 +163,23 @@ pub record EndsBehindItems : Type 0 where
   pub over : (lines_in (pull 9 (ends_at 2)) ≡ item_of 1 ∷ item_of 2 ∷ item_of 3 ∷ end_line 0 ∷ []) × (asked_in (pull 9 (ends_at 2)) ≡ (5, call.CloseStream 5) ∷ []) × (count_in (pull 9 (ends_at 2)) ≡ (4, halt.Idle))
   pub edge : (lines_in (pull 9 (ends_at 3)) ≡ item_of 1 ∷ item_of 2 ∷ item_of 3 ∷ end_line 0 ∷ []) × (asked_in (pull 9 (ends_at 3)) ≡ (5, call.CloseStream 5) ∷ [])
   pub above : (asked_in (pull 9 (ends_at 4)) ≡ (5, call.Place 5) ∷ []) × (lines_in (pull 9 (ends_at 4)) ≡ item_of 1 ∷ item_of 2 ∷ item_of 3 ∷ end_line 2 ∷ [])
+
+-- ---- a stream that its vBucket lost
+
+-- what a program comes to where its first calls are answered so, and each later one with nothing, as by a vBucket that is absent
+abbrev pub answered_so : {A : Type 0} → List VbAnswer → Prog A → A
+answered_so said (Done a) = a
+answered_so [] (Call v call next) = answered_so [] (next None)
+answered_so (a ∷ said) (Call v call next) = answered_so said (next (Some (quiet_reply a)))
+
+-- the stream for which the end 4 was asked, with a snapshot that ends at 3: its items are put, and then its vBucket is asked
+abbrev pub asked_behind : List VbAnswer → Served × Halt
+asked_behind said = answered_so said (pull 9 (ends_at 4))
+
+-- Such a stream ends with reason 2 where its vBucket answers Absent to Place, or to Take behind a Place from memory, or is not there any more by then; where it has no snapshot yet, or the changes are to be saved first, the stream stays, and the pull says so.
+pub record LostStreamsEnd : Type 0 where
+  pub placed : ((asked_behind (answer.Absent ∷ [])).0.events ≡ item_of 1 ∷ item_of 2 ∷ item_of 3 ∷ end_line 2 ∷ []) × ((asked_behind (answer.Absent ∷ [])).0.end.streams ≡ [])
+  pub taken : ((asked_behind (answer.Placed place.Memory ∷ answer.Absent ∷ [])).0.events ≡ item_of 1 ∷ item_of 2 ∷ item_of 3 ∷ end_line 2 ∷ []) × ((asked_behind (answer.Placed place.Memory ∷ answer.Absent ∷ [])).0.end.streams ≡ [])
+  pub gone : ((asked_behind (answer.Placed place.Memory ∷ [])).0.events ≡ item_of 1 ∷ item_of 2 ∷ item_of 3 ∷ end_line 2 ∷ []) × ((asked_behind (answer.Placed place.Memory ∷ [])).0.end.streams ≡ [])
+  pub none : ((asked_behind (answer.Placed place.Memory ∷ answer.Nothing ∷ [])).0.events ≡ items_of (1 ∷ 2 ∷ 3 ∷ [])) × ((asked_behind (answer.Placed place.Memory ∷ answer.Nothing ∷ [])).1 ≡ halt.Idle)
+  pub waits : ((asked_behind (answer.Placed place.WaitSaved ∷ [])).0.events ≡ items_of (1 ∷ 2 ∷ 3 ∷ [])) × ((asked_behind (answer.Placed place.WaitSaved ∷ [])).1 ≡ halt.WaitSaved)

@@ -39,6 +39,7 @@ use Rattle.dcp_producer.specs.declared.desk.Handshake.TheVariants as handshake
 use Rattle.dcp_producer.specs.declared.desk.Named.{Named}
 use Rattle.dcp_producer.specs.declared.desk.Named.TheVariants as named
 use Rattle.flow_control.specs.Windows.{with_acked, with_size}
+use Rattle.dcp_producer.specs.Firsts.{first_of}
 use Rattle.dcp_producer.specs.Producers.{PlainStream, PlainProducer, Served, is_client, is_open, is_sync, member_of, stream_at, with_opened, without_stream}
 use Rattle.dcp_producer.specs.Sizes.{size_of}
 
@@ -222,7 +223,7 @@ gives_of flags = if flags == 1 then Some new_give_up else None
 
 -- a stream begins with no snapshot taken, and its consumer has all up to the start that it asked for
 abbrev pub new_stream : ℕ → Frame → StreamAsk → PlainStream
-new_stream id f ask = record { id = id; vb = f.vb_or_status; opaque = f.opaque; until = ask.end; items = []; next = 0; marked = None; reached = ask.start; ended = false; gives = gives_of ask.flags }
+new_stream id f ask = record { id = id; vb = f.vb_or_status; opaque = f.opaque; until = ask.end; first = first_of ask; items = []; next = 0; marked = None; reached = ask.start; ended = false; gives = gives_of ask.flags }
 
 -- a request that is let continue makes a stream of this number
 abbrev pub with_granted : PlainProducer → ℕ → Frame → StreamAsk → AskAnswer → PlainProducer

@@ -1,7 +1,9 @@
 //! A stream: the snapshot that it was given last, and how far it was put.
-ghost use Rattle.std.specs.Prelude.{◌≡◌, ◌&&◌, ◌==◌, ◌+◌, ◌^◌, ◌<◌, slice_get, IsSome, true, Some};
-ghost use Rattle.{std.specs.Option.{option_copied, option_map}, dcp_producer.specs.Ending.{ended_in}, dcp_producer.specs.Frames.{past_item, reaches_end, with_snapshot}, dcp_producer.specs.Giving.{is_due}, dcp_producer.specs.Serving.{gives_of, heard, new_stream}, takeover.specs.GivingUp.{done}};
+ghost use Rattle.std.specs.Prelude.{◌≡◌, ◌&&◌, ◌==◌, ◌+◌, ◌^◌, ◌<◌, slice_get, IfOk, IsSome, true, Some};
+ghost use Rattle.{std.specs.Option.{option_copied, option_map}, dcp_producer.specs.Ending.{ended_in}, dcp_producer.specs.Firsts.{as_sent}, dcp_producer.specs.Frames.{past_item, reaches_end, with_snapshot}, dcp_producer.specs.Giving.{is_due}, dcp_producer.specs.Serving.{gives_of, heard, new_stream}, takeover.specs.GivingUp.{done}};
 
+use crate::first::first_items;
+use crate::{Alloc, First};
 use mcbp_frame::Frame;
 use std::alloc::Global;
 use std::marker::Model;
@@ -19,7 +21,7 @@ pub enum StreamState {
 
 /// A stream that was opened: under which number, of which vBucket, and with which opaque its frames
 /// go. Of the snapshot that was taken last, the items before `next` have been put; `marked` is the
-/// END of its marker. Its consumer asked for all up to `until`, and may have all up to `reached`:
+/// END of its marker; the first one is sent by `first`. Its consumer asked for all up to `until`, and may have all up to `reached`:
 /// the start that it asked for, or the last item that was put. One that gives its vBucket up to its
 /// consumer's has in `gives` how far that is.
 #[derive(Drop)]
@@ -28,6 +30,7 @@ pub struct ActiveStream {
     pub vb: u16,
     pub opaque: u32,
     until: u64,
+    first: First,
     items: Listed<Change>,
     next: usize,
     marked: Option<u64>,
@@ -41,7 +44,7 @@ impl Model for ActiveStream {
 
     ghost Value = { PlainStream };
 
-    ghost view = { λ s. record { id = s.id; vb = s.vb; opaque = s.opaque; until = s.until; items = s.items; next = s.next; marked = s.marked; reached = s.reached; ended = is_ended s.state; gives = s.gives } };
+    ghost view = { λ s. record { id = s.id; vb = s.vb; opaque = s.opaque; until = s.until; first = s.first; items = s.items; next = s.next; marked = s.marked; reached = s.reached; ended = is_ended s.state; gives = s.gives } };
 }
 
 /// How far a stream with these flags is in giving its vBucket up, if it does.
@@ -65,6 +68,7 @@ impl ActiveStream {
             vb: request.vb_or_status,
             opaque: request.opaque,
             until: ask.end,
+            first: First::of(ask),
             items: Listed::new(alloc),
             next: 0,
             marked: None,
@@ -177,6 +181,27 @@ impl ActiveStream {
     {
         self.next += 1;
         self.reached = self.reached.max(seq);
+    }
+
+    /// A snapshot that its vBucket gave, as it is sent.
+    pub fn as_sent(&self, alloc: Global, snapshot: Snapshot) -> Alloc<Snapshot>
+        ensures { IfOk result (λ sent. sent ≡ as_sent self.now snapshot) }
+    {
+        if self.marked.is_some() {
+            return Ok(snapshot);
+        }
+        let Snapshot {
+            end,
+            disk,
+            items,
+            ..
+        } = snapshot;
+        Ok(Snapshot {
+            start: self.first.start,
+            end,
+            disk,
+            items: first_items(alloc, self.first, items)?,
+        })
     }
 
     /// Goes to the front of the next snapshot, behind its marker.

@@ -1,7 +1,7 @@
 //! The next frame of a stream, out of the snapshots that its vBucket gives.
 ghost use Rattle.std.specs.Prelude.{◌≡◌, IfOk, OnErr, None};
 ghost use Rattle.dcp_producer.specs.Frames.{act_sent, alive_next, close_sent, none_next, role_of, state_next, state_put, step_next, item_line, item_frame, marker_flags, marker_next, take_answered, take_requested, placed_next, place_requested, more_next, next_frame, IsPuttable};
-ghost use Rattle.{dcp_producer.specs.Wanting.{standing}, vb_calls.specs.Programs.{Ran, Began}};
+ghost use Rattle.{dcp_producer.specs.Firsts.{as_sent}, dcp_producer.specs.Wanting.{standing}, vb_calls.specs.Programs.{Ran, Began}};
 
 use crate::messages::message_of;
 use crate::replies::{answer_of, place_said};
@@ -94,6 +94,21 @@ impl ActiveStream {
         }
     }
 
+    /// Goes to a snapshot that its vBucket gave, as it is sent.
+    fn mark_taken(
+        &mut self,
+        alloc: Global,
+        name: StreamName,
+        snapshot: Snapshot,
+    ) -> Alloc<NextFrame>
+        ensures next { IfOk result (λ next. (next, self.new) ≡ marker_next name self.old (as_sent self.old snapshot)) }
+        ensures same { standing self.new ≡ standing self.old }
+        ensures spelled { IfOk result IsPuttable }
+    {
+        let sent = self.as_sent(alloc, snapshot)?;
+        Ok(self.mark(name, sent))
+    }
+
     /// Puts a state, which ends its step.
     fn put_state(&mut self, name: StreamName, mut gives: GiveUp, role: Role) -> NextFrame
         ensures next { (result, self.new) ≡ state_put name self.old gives role }
@@ -141,38 +156,49 @@ impl ActiveStream {
     }
 
     /// Goes to the snapshot that was taken, if one was; a stream that its vBucket lost is over.
-    fn answer_take(&mut self, name: StreamName, reply: Option<VbReply>) -> NextFrame
-        ensures next { (result, self.new) ≡ take_answered name self.old reply }
+    fn answer_take(
+        &mut self,
+        alloc: Global,
+        name: StreamName,
+        reply: Option<VbReply>,
+    ) -> Alloc<NextFrame>
+        ensures next { IfOk result (λ next. (next, self.new) ≡ take_answered name self.old reply) }
         ensures same { standing self.new ≡ standing self.old }
-        ensures spelled { IsPuttable result }
+        ensures spelled { IfOk result IsPuttable }
     {
         match answer_of(reply) {
-            Some(VbAnswer::Taken(snapshot)) => self.mark(name, snapshot),
-            Some(VbAnswer::Nothing) => self.answer_none(name),
+            Some(VbAnswer::Taken(snapshot)) => self.mark_taken(alloc, name, snapshot),
+            Some(VbAnswer::Nothing) => Ok(self.answer_none(name)),
             other => {
                 drop(other);
-                NextFrame::End {
+                Ok(NextFrame::End {
                     reason: STATE_CHANGED,
-                }
+                })
             }
         }
     }
 
     /// Takes the next snapshot of the vBucket, if there is one.
-    fn take_snapshot<A: VbAccess>(&mut self, vbs: &mut A, name: StreamName) -> Alloc<NextFrame>
+    fn take_snapshot<A: VbAccess>(
+        &mut self,
+        alloc: Global,
+        vbs: &mut A,
+        name: StreamName,
+    ) -> Alloc<NextFrame>
         ensures ok { IfOk result (λ next. Ran A.step (take_requested name self.old) vbs.old (next, self.new) vbs.new) }
         ensures err { OnErr result (Began A.step (take_requested name self.old) vbs.old vbs.new) }
         ensures same { standing self.new ≡ standing self.old }
         ensures spelled { IfOk result IsPuttable }
     {
         let reply = vbs.call(self.vb, VbCall::Take { id: self.id })?;
-        Ok(self.answer_take(name, reply))
+        self.answer_take(alloc, name, reply)
     }
 
     /// Takes the next snapshot where the next changes are in memory; a stream that its vBucket lost
     /// is over.
     fn go_on<A: VbAccess>(
         &mut self,
+        alloc: Global,
         vbs: &mut A,
         name: StreamName,
         from: Option<Place>,
@@ -183,7 +209,7 @@ impl ActiveStream {
         ensures spelled { IfOk result IsPuttable }
     {
         match from {
-            Some(Place::Memory) => self.take_snapshot(vbs, name),
+            Some(Place::Memory) => self.take_snapshot(alloc, vbs, name),
             Some(Place::WaitSaved) => Ok(NextFrame::Quiet {
                 waits: Waits::Saved,
             }),
@@ -194,14 +220,19 @@ impl ActiveStream {
     }
 
     /// Asks where the next changes come from, and takes the next snapshot where they are in memory.
-    fn place<A: VbAccess>(&mut self, vbs: &mut A, name: StreamName) -> Alloc<NextFrame>
+    fn place<A: VbAccess>(
+        &mut self,
+        alloc: Global,
+        vbs: &mut A,
+        name: StreamName,
+    ) -> Alloc<NextFrame>
         ensures ok { IfOk result (λ next. Ran A.step (place_requested name self.old) vbs.old (next, self.new) vbs.new) }
         ensures err { OnErr result (Began A.step (place_requested name self.old) vbs.old vbs.new) }
         ensures same { standing self.new ≡ standing self.old }
         ensures spelled { IfOk result IsPuttable }
     {
         let reply = vbs.call(self.vb, VbCall::Place { id: self.id })?;
-        self.go_on(vbs, name, place_said(reply))
+        self.go_on(alloc, vbs, name, place_said(reply))
     }
 
     /// Closes the stream at its vBucket: it is over, as all was sent.
@@ -220,6 +251,7 @@ impl ActiveStream {
     #[tactic(auto, using(vb_calls::proofs::Runs::runs))]
     fn next_step<A: VbAccess>(
         &mut self,
+        alloc: Global,
         vbs: &mut A,
         name: StreamName,
         gives: GiveUp,
@@ -230,7 +262,7 @@ impl ActiveStream {
         ensures spelled { IfOk result IsPuttable }
     {
         match gives.next() {
-            GiveStep::SendAll | GiveStep::SendRest => self.place(vbs, name),
+            GiveStep::SendAll | GiveStep::SendRest => self.place(alloc, vbs, name),
             GiveStep::End => Ok(self.close_sent(vbs)),
             _ => Ok(self.next_state(name, gives)),
         }
@@ -239,7 +271,12 @@ impl ActiveStream {
     /// What a stream puts that gives no vBucket up: its end, where all that was asked for was sent,
     /// and else the next snapshot.
     #[tactic(auto, using(vb_calls::proofs::Runs::runs))]
-    fn next_fed<A: VbAccess>(&mut self, vbs: &mut A, name: StreamName) -> Alloc<NextFrame>
+    fn next_fed<A: VbAccess>(
+        &mut self,
+        alloc: Global,
+        vbs: &mut A,
+        name: StreamName,
+    ) -> Alloc<NextFrame>
         requires { self.old.gives ≡ None }
         ensures ok { IfOk result (λ next. Ran A.step (alive_next name self.old None) vbs.old (next, self.new) vbs.new) }
         ensures err { OnErr result (Began A.step (alive_next name self.old None) vbs.old vbs.new) }
@@ -249,13 +286,18 @@ impl ActiveStream {
         if self.reaches_end() {
             return Ok(self.close_sent(vbs));
         }
-        self.place(vbs, name)
+        self.place(alloc, vbs, name)
     }
 
     /// What comes behind the items of the snapshot: the stream's end, where a change of role ended
     /// it, and else what it puts next.
     #[tactic(auto, using(vb_calls::proofs::Runs::runs))]
-    fn next_marker<A: VbAccess>(&mut self, vbs: &mut A, name: StreamName) -> Alloc<NextFrame>
+    fn next_marker<A: VbAccess>(
+        &mut self,
+        alloc: Global,
+        vbs: &mut A,
+        name: StreamName,
+    ) -> Alloc<NextFrame>
         ensures ok { IfOk result (λ next. Ran A.step (more_next name self.old) vbs.old (next, self.new) vbs.new) }
         ensures err { OnErr result (Began A.step (more_next name self.old) vbs.old vbs.new) }
         ensures same { standing self.new ≡ standing self.old }
@@ -267,8 +309,8 @@ impl ActiveStream {
             });
         }
         match self.gives() {
-            Some(gives) => self.next_step(vbs, name, gives),
-            None => self.next_fed(vbs, name),
+            Some(gives) => self.next_step(alloc, vbs, name, gives),
+            None => self.next_fed(alloc, vbs, name),
         }
     }
 
@@ -287,7 +329,7 @@ impl ActiveStream {
         ensures spelled { IfOk result IsPuttable }
     {
         let Some(change) = self.item() else {
-            return self.next_marker(vbs, name);
+            return self.next_marker(alloc, vbs, name);
         };
         let seq = change.seq;
         let next = item_frame(alloc, name, change)?;

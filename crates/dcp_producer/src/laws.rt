@@ -1,12 +1,13 @@
 //! Laws of a producer. Each is a function with no work to do, and its clauses are the law.
 ghost use Rattle.std.specs.Prelude.{◌≡◌, ◌≢◌, ◌<◌, ◌≤◌, ◌⊎◌, ◌++◌, ◌^◌, ℕ, Bool, true, false, List, [], ◌∷◌, Some, Ok, codes, decimal, Err};
+ghost use Rattle.dcp_producer.specs.{FirstMarkers.{MarksFirst, MeansFirst}, Frames.{take_answered}};
 ghost use Rattle.dcp_producer.specs.Having.{IsOpened, IsStreamOf, NoneOf};
 ghost use Rattle.dcp_producer.specs.Handshaking.{Asks, Gets, IsFlag, IsKnown, IsName, IsNoOpen, IsNoRequest, IsOther, Sizes};
 ghost use Rattle.dcp_producer.specs.Items.{Asking, EndsBytes, IsNext, MarksBytes, MarksSnapshots, PutsBytes, PutsDurables, PutsPlain, durable_doc, durable_row};
 ghost use Rattle.dcp_producer.specs.Counting.{IsClients, IsCountable, IsFed, IsMember, IsNoMember, IsUnfed, OneCount};
 ghost use Rattle.dcp_producer.specs.Requesting.{AreTaken, IsForIt, IsFree, IsInactive, IsOutside, OneReply, RefusedWith, number_behind};
 ghost use Rattle.dcp_producer.specs.Producers.{PlainStream, Served};
-ghost use Rattle.{dcp_producer.specs.Serving.{frame_answered, message_answered, named_by}, dcp_producer.specs.declared.desk.Handshake.TheVariants.{Fresh, Open as Shaken}};
+ghost use Rattle.{dcp_producer.specs.Serving.{frame_answered, message_answered, named_by, new_stream}, dcp_producer.specs.declared.desk.Handshake.TheVariants.{Fresh, Open as Shaken}};
 ghost use Rattle.{dcp_producer.specs.declared.desk.Named.{Named as Name}, dcp_producer.specs.declared.desk.Named.TheVariants.{Member, Nobody, Stranger}};
 ghost use Rattle.{mcbp_dcp.specs.Messages.{read_of}, mcbp_dcp.specs.declared.message.DcpFault.{DcpFault as Fault}, mcbp_dcp.specs.declared.message.DcpMsg.{DcpMsg as Message}};
 ghost use Rattle.{mcbp_dcp.specs.declared.message.DcpMsg.TheVariants.{Control, Open, SeqnoAcknowledged}, mcbp_frame.specs.declared.frame.Frame.{Frame as FrameData}};
@@ -16,11 +17,22 @@ ghost use Rattle.mcbp_dcp.specs.MessageRows.{deletion_bytes, end_bytes, marker_b
 ghost use Rattle.{vb_types.specs.declared.change.Act.TheVariants.{Abort, Commit, Prepare, Remove, Set}, vb_types.specs.declared.change.Change.{Change as ChangeData}};
 ghost use Rattle.vb_types.specs.declared.change.Level.TheVariants.{MajorityPersistActive, PersistMajority};
 ghost use Rattle.{vb_types.specs.declared.role.Role.TheVariants.{Active}, vb_types.specs.declared.stream.StreamAsk.{StreamAsk as AskData}};
+ghost use Rattle.{vb_events.specs.declared.event.StreamName.{StreamName as Stream}, vb_types.specs.declared.stream.Snapshot.{Snapshot as SnapshotData}};
+ghost use Rattle.{vb_calls.specs.declared.calls.VbAnswer.TheVariants.{Taken}, vb_calls.specs.declared.calls.VbReply.{VbReply as ReplyData}};
 
 /// The marker of a snapshot has its start and its end, and the flag 1 for one from memory and 2 for one
 /// from disk, in the frame as in the line.
 pub fn markers_tell_their_source()
     ensures { MarksSnapshots }
+{}
+
+/// Until a marker of a stream was sent, START is where its request means that its snapshot starts, and
+/// commits are sent as sets and removals where that is below the request's start. Behind a marker START
+/// is where its vBucket went on, and its changes are sent as it gave them.
+pub fn first_markers()
+    ensures begins { (id : ℕ) (f : FrameData) (ask : AskData) → MeansFirst ask (new_stream id f ask).first }
+    ensures sent { (name : Stream) (stream : PlainStream) (snapshot : SnapshotData) (reply : ReplyData) → reply.answer ≡ Taken snapshot
+        → MarksFirst name stream snapshot (take_answered name stream (Some reply)) }
 {}
 
 /// A set is put as a MUTATION with its document, and a removal as a DELETION with its own CAS and

@@ -8,6 +8,7 @@ mod answers;
 mod client_laws;
 mod connection;
 mod desk;
+mod first;
 mod frames;
 mod halt;
 mod laws;
@@ -32,12 +33,13 @@ pub use client_laws::{
 };
 use connection::Connection;
 pub use desk::{Desk, Handshake, Named};
+use first::First;
 pub use halt::Halt;
 pub use laws::{
     acknowledgements_are_weighed, changes_are_put, changes_in_bytes, controls_are_known,
-    durable_writes_are_put, durable_writes_in_bytes, frames_are_weighed, markers_tell_their_source,
-    members_are_named, opens_are_answered, others_are_einval, requests_are_one_call,
-    requests_are_refused_in_order, requests_before_open,
+    durable_writes_are_put, durable_writes_in_bytes, first_markers, frames_are_weighed,
+    markers_tell_their_source, members_are_named, opens_are_answered, others_are_einval,
+    requests_are_one_call, requests_are_refused_in_order, requests_before_open,
 };
 use next_frame::{NextFrame, Waits};
 use producer::close_stream;
@@ -47,7 +49,8 @@ pub use pull_laws::{
     quiet_streams_stay_quiet, streams_take_turns, windows_hold_back,
 };
 pub use row_laws::{
-    ends_come_behind_items, items_are_put_in_turn, turns_in_order, windows_hold_at_their_edge,
+    ends_come_behind_items, first_markers_in_numbers, items_are_put_in_turn, lost_streams_end,
+    turns_in_order, windows_hold_at_their_edge,
 };
 pub use stream_laws::{closed_streams_are_silent, logs_are_answered, noops_are_answered};
 pub use takeover_laws::{

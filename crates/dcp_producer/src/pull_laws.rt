@@ -73,8 +73,9 @@ pub fn pulls_ask_little()
 /// where one of them waits, first for the answer to a state and next for what is to be saved, else that there is
 /// no more. The same frames go out with the
 /// same lines, the same streams, turn, window and vBuckets are left, and it says the same of why no more was
-/// put. For a stream that is quiet changes nothing, and is quiet again while its vBucket stays as it is; and
-/// the others, which are of other vBuckets, leave that one alone.
+/// put. For a stream that is quiet changes nothing, but that its vBucket gives it a cursor where it has none
+/// and its place is served from memory; it is quiet again, and then nothing changes, while its vBucket stays
+/// as it was left; and the others, which are of other vBuckets, leave that one alone.
 pub fn quiet_streams_stay_quiet()
     ensures pull { (frames : ℕ) (s : Served) (states : States) → IsSound s.end → IsAsIfAllAsked frames s states }
     ensures again { (name : Name) (stream : PlainStream) (states : States) → StaysQuiet name stream states }

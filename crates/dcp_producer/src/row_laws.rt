@@ -1,6 +1,7 @@
 //! Streams of a few items each, worked by hand: what pulls put of them; each law as the contract of a
 //! function that does nothing.
-ghost use Rattle.dcp_producer.specs.Rows.{EndsBehindItems, HeldAtEdge, PutInTurn, TurnsInOrder};
+ghost use Rattle.dcp_producer.specs.FirstRows.{FirstsInRows};
+ghost use Rattle.dcp_producer.specs.Rows.{EndsBehindItems, HeldAtEdge, LostStreamsEnd, PutInTurn, TurnsInOrder};
 
 /// The items of a snapshot are put in their order, each once, also of a stream that a change of role
 /// ended; behind the last one that stream's end is put, and then nothing.
@@ -29,4 +30,20 @@ pub fn turns_in_order()
 #[tactic(auto, unfolding(crate::specs::Pulling::frames_put, crate::specs::Pulling::one_frame, crate::specs::Pulling::one_turn, crate::specs::Frames::next_frame))]
 pub fn ends_come_behind_items()
     ensures { EndsBehindItems }
+{}
+
+/// Behind its items a stream whose vBucket answers Absent, where it is asked for its place or for a
+/// snapshot, or is not there any more, ends with reason 2; one that has no snapshot yet, or whose changes
+/// are to be saved first, stays.
+#[tactic(auto, unfolding(crate::specs::Pulling::frames_put, crate::specs::Pulling::one_frame, crate::specs::Pulling::one_turn, crate::specs::Frames::next_frame))]
+pub fn lost_streams_end()
+    ensures { LostStreamsEnd }
+{}
+
+/// Of a request inside its snapshot the first marker starts where that does, and its commits are sent as a
+/// set or a removal; at either end the marker starts at the request's start, and a commit is one. Behind
+/// another marker START is that of the vBucket, and a commit is one.
+#[tactic(auto, unfolding(crate::specs::Pulling::frames_put, crate::specs::Pulling::one_frame, crate::specs::Pulling::one_turn, crate::specs::Frames::next_frame))]
+pub fn first_markers_in_numbers()
+    ensures { FirstsInRows }
 {}
