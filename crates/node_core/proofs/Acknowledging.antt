@@ -1,8 +1,7 @@
 -- what a dial acknowledges, whatever its vBucket replies
-use Rattle.std.proofs.Common.{◌≡◌, ◌<◌, ℕ, Bool, true, false, List, [], ◌∷◌, ◌++◌, map, refl, sym, subst, ap, ◌∙◌, arith, append_assoc, append-nil, inl, inr, Option, Some, None}
+use Rattle.std.proofs.Common.{◌≡◌, ℕ, Bool, true, false, List, [], ◌∷◌, ◌++◌, map, refl, sym, subst, ap, ◌∙◌, arith, append_assoc, append-nil, inl, inr, Option, Some, None}
 use Rattle.std.specs.Prelude.{◌&&◌, ◌-◌, ◌^◌, nat_lt, if◌then◌else◌, is_some}
 use Rattle.std.specs.List.{fold, All, filter_map}
-use Rattle.std.proofs.lemmas.Bool.{false_from_ne_true, ltb-true}
 use Rattle.std.proofs.lemmas.List.{map-append}
 use Rattle.std.proofs.lemmas.List.Elements.{All-nil, filter_map-append}
 use Rattle.mcbp_frame.specs.declared.frame.Frame.{Frame}
@@ -45,8 +44,8 @@ use Rattle.dcp_consumer.specs.Machine.{PlainConsumer, with_handshake, over_why, 
 use Rattle.dcp_consumer.specs.Noops.{noop_answered, IsNoop}
 use Rattle.dcp_consumer.proofs.Noops.{answered as noop_answers, only as noop_only}
 use Rattle.node_core.specs.Calls.{own_lines}
-use Rattle.node_core.specs.Conduct.{Asks, Acknowledges, AnswersNoop, AnswersState, MayWrite, AnswersNoops, AreNoopsOf, noop_written, bytes_written, IsOfDial, KeepsLink, AnyOther, DueNext, StatNext, Dues, said, log_behind, message_behind, due_behind, stat_behind, behind, CallsAs, seqno_written, seqnos_of_line, Acknowledged, begins}
-use Rattle.node_core.specs.Dials.{PlainDial, DialResult, untold, is_over, with_consumer, with_line, with_left, over_for, adopted_line, granted_with, is_done_answer, adopt_result, acknowledged_line, acknowledged_result, saved_in, saved_of_reply, due_in, due_of_reply, due_met, due_requested, dial_due, go_on_with, follower_ask, again_with, again_result, requested_once_more, rolled_line, rolled_back, roll_back, got_line, taken_as, message_result, call_made, noop_met, is_done, is_pending, role_line, state_met, pend_result, pended, heir_told, noted_for, own_result, owned, state_made, step_made, frame_taken, frames_taken, fault_met}
+use Rattle.node_core.specs.Conduct.{Asks, Acknowledges, AnswersNoop, AnswersState, MayWrite, AnswersNoops, AreNoopsOf, noop_written, bytes_written, IsOfDial, KeepsLink, AnyOther, DueNext, Dues, said, log_behind, message_behind, due_behind, behind, CallsAs, seqno_written, seqnos_of_line, Acknowledged, begins}
+use Rattle.node_core.specs.Dials.{PlainDial, DialResult, untold, is_over, with_consumer, with_line, with_left, over_for, adopted_line, granted_with, is_done_answer, adopt_result, acknowledged_line, acknowledged_result, dues_in, dues_of_reply, due_met, due_requested, dial_due, go_on_with, follower_ask, again_with, again_result, requested_once_more, rolled_line, rolled_back, roll_back, got_line, taken_as, message_result, call_made, noop_met, is_done, is_pending, role_line, state_met, pend_result, pended, heir_told, noted_for, own_result, owned, state_made, step_made, frame_taken, frames_taken, fault_met}
 use Rattle.node_core.proofs.Conduct.{skipped, either, FollowsIf, Follows, Goes, IsMessage, step_goes, changed_own, role_told, over_keeps, lines_keep, wrote_keeps, silent_keeps, one_own, got_own}
 
 -- one job after the other
@@ -201,44 +200,22 @@ state_told old s d opaque takes m = record {
   heard = m.heard;
 }
 
--- what Stat says
+-- what a reply to Due says
 module _ {noops : List ℕ} (old s : DialResult) (last : ℕ) (met : List (ℕ × ℕ)) (m : Acknowledged [] noops old (free last met) s) where
-  stat_said : (seq : ℕ) (a : VbAnswer) → Acknowledged [] noops old (stat_behind (record { next = StatNext seq; last = last; met = met }) (StatNext seq) a) (acknowledged_result seq s (saved_in a))
-  stat_said seq (answer.Stat spans items cursors saved high) = met_told old s last met seq saved m
-  stat_said seq other = met_told old s last met seq 0 m
-
-  stat_replied : (seq : ℕ) (reply : Option VbReply)
-      → Acknowledged [] noops old (stat_behind (record { next = StatNext seq; last = last; met = met }) (StatNext seq) (said reply)) (acknowledged_result seq s (saved_of_reply reply))
-  stat_replied seq None = met_told old s last met seq 0 m
-  stat_replied seq (Some r) = stat_said seq r.answer
-
   -- what is due is met
-  meets : (seq : ℕ) (b : Bool) → CallsAs (Acknowledged [] noops old) (record { next = if b then StatNext seq else AnyOther; last = last; met = met })
-      (lift (if b then prog.Call s.dial.consumer.dialed.vb call.Stat (λ reply. Done (acknowledged_result seq s (saved_of_reply reply))) else Done s))
-  meets seq true = (tt, λ reply. stat_replied seq reply)
-  meets seq false = m
-
-  none_above : (b : Bool) (n : ℕ) → (b && nat_lt n 0) ≡ false
-  none_above true n = false_from_ne_true (nat_lt n 0) (λ e. let below : n < 0 = ltb-true n 0 e in omega arith)
-  none_above false n = refl
-
-  -- nothing is due
-  meets_none : CallsAs (Acknowledged [] noops old) (free last met) (lift (due_met s 0))
-  meets_none =
-      subst (λ b. CallsAs (Acknowledged [] noops old) (free last met) (lift (if b then prog.Call s.dial.consumer.dialed.vb call.Stat (λ reply. Done (acknowledged_result 0 s (saved_of_reply reply))) else Done s)))
-      (sym (none_above (is_streaming s.dial.consumer.handshake) s.dial.consumer.acked)) m
+  meets : (seq saved : ℕ) (b : Bool) → Acknowledged [] noops old (if b then free seq (met ++ (seq, saved) ∷ []) else free last met) (if b then acknowledged_result seq s saved else s)
+  meets seq saved true = met_told old s last met seq saved m
+  meets seq saved false = m
 
   module _ (streams : s.dial.consumer.handshake ≡ handshake.Streaming) where
-    due_said : (a : VbAnswer) → CallsAs (Acknowledged [] noops old) (due_behind (record { next = DueNext; last = last; met = met }) a) (lift (due_met s (due_in a)))
-    due_said (answer.Num seq) =
+    due_said : (a : VbAnswer) → Acknowledged [] noops old (due_behind (record { next = DueNext; last = last; met = met }) a) (due_met s (dues_in a))
+    due_said (answer.Dues seq saved) =
         let may : nat_lt last seq ≡ may_acknowledge seq s.dial.consumer = λ i. is_streaming (sym streams i) && nat_lt (m.last i) seq in
-        subst (λ b. CallsAs (Acknowledged [] noops old) (record { next = if nat_lt last seq then StatNext seq else AnyOther; last = last; met = met })
-        (lift (if b then prog.Call s.dial.consumer.dialed.vb call.Stat (λ reply. Done (acknowledged_result seq s (saved_of_reply reply))) else Done s)))
-        may (meets seq (nat_lt last seq))
-    due_said other = meets_none
+        subst (λ b. Acknowledged [] noops old (if nat_lt last seq then free seq (met ++ (seq, saved) ∷ []) else free last met) (if b then acknowledged_result seq s saved else s)) may (meets seq saved (nat_lt last seq))
+    due_said other = m
 
-    due_replied : (reply : Option VbReply) → CallsAs (Acknowledged [] noops old) (due_behind (record { next = DueNext; last = last; met = met }) (said reply)) (lift (due_met s (due_of_reply reply)))
-    due_replied None = meets_none
+    due_replied : (reply : Option VbReply) → Acknowledged [] noops old (due_behind (record { next = DueNext; last = last; met = met }) (said reply)) (due_met s (dues_of_reply reply))
+    due_replied None = m
     due_replied (Some r) = due_said r.answer
 
     -- what is due is asked
@@ -246,7 +223,7 @@ module _ {noops : List ℕ} (old s : DialResult) (last : ℕ) (met : List (ℕ �
     unfolding due_requested
     asks_due =
         subst (λ b. CallsAs (Acknowledged [] noops old) (record { next = DueNext; last = last; met = met })
-        (lift (if b then prog.Call s.dial.consumer.dialed.vb call.Due (λ reply. due_met s (due_of_reply reply)) else Done s)))
+        (lift (if b then prog.Call s.dial.consumer.dialed.vb call.Due (λ reply. Done (due_met s (dues_of_reply reply))) else Done s)))
         (ap is_streaming (sym streams)) (tt, λ reply. due_replied reply)
 
 -- a link that is over asks nothing
@@ -527,4 +504,4 @@ pub idle_is_silent : (dial : PlainDial) → (dial.consumer.handshake ≡ handsha
 unfolding due_requested
 idle_is_silent dial idle =
     let s : DialResult = untold dial in
-    ap (λ b. if b then prog.Call dial.consumer.dialed.vb call.Due (λ reply. due_met s (due_of_reply reply)) else Done s) (not_streaming dial.consumer.handshake idle)
+    ap (λ b. if b then prog.Call dial.consumer.dialed.vb call.Due (λ reply. Done (due_met s (dues_of_reply reply))) else Done s) (not_streaming dial.consumer.handshake idle)

@@ -43,7 +43,7 @@ use Rattle.takeover.specs.declared.take_over.TakeStep.TheVariants.{Pend, Own}
 use Rattle.vb_calls.specs.Flushes.{is_refusal, note_role_job, role_of_call, role_told_job, role_job, rolled_job, read_job, may_roll_job, rollable_job, roll_job}
 use Rattle.vb_calls.specs.Jobs as job
 use Rattle.vb_calls.specs.Jobs.{Job, Ended, bind_job, next_job, each_job, lift, after_job, AlwaysJob}
-use Rattle.vb_calls.specs.Programs.{Prog, Done, Call, Always, AnyReply}
+use Rattle.vb_calls.specs.Programs.{Always, AnyReply}
 use Rattle.vb_calls.specs.Shelves.{Ask, Fate, Stood, WasClosed, DiskFailed, Reading, Book, Shut, Unread, Broken, Shelves}
 use Rattle.vb_calls.specs.States.{States}
 use Rattle.vb_calls.proofs.JobConduct.{always_bind_job, always_lift, always_each_job, after_job_elsewhere, after_job_always}
@@ -60,11 +60,12 @@ use Rattle.dcp_consumer.specs.Noops.{noop_answered}
 use Rattle.dcp_consumer.specs.Dialing.{flagged}
 use Rattle.dcp_consumer.specs.States.{state_answered}
 use Rattle.dcp_consumer.proofs.{Moves.{over_so}, States.{state_case}}
-use Rattle.dcp_consumer.specs.Machine.{PlainConsumer, over_why, is_awaited, status_step, verdict_step, answered_with, stream_step, answer_step, response_step, is_noop, passive_step, message_step, unstated_step, frame_step, consumer_step, granted, ended_for, request_again, again_by, is_streaming, may_acknowledge, acknowledged}
+use Rattle.dcp_consumer.specs.Machine.{PlainConsumer, over_why, is_awaited, status_step, verdict_step, answered_with, stream_step, answer_step, response_step, is_noop, passive_step, message_step, unstated_step, frame_step, consumer_step, granted, ended_for, request_again, again_by, acknowledged}
 use Rattle.dcp_consumer.specs.declared.handshake.Dialed.{Dialed}
 use Rattle.node_core.specs.Calls.{own_lines}
 use Rattle.node_core.specs.Conduct.{IsFollowing, FollowsAt, RollsAt, Writes, Asks, Acknowledges, AcknowledgesBytes, AnswersNoop, AnswersState, MayWrite, asks_in, writes_past, IsOfDial, KeepsLink}
-use Rattle.node_core.specs.Dials.{PlainDial, DialResult, untold, is_broken, is_over, with_consumer, with_line, with_left, over_for, adopted_line, granted_with, is_done_answer, is_done, is_pending, role_line, state_met, pend_result, pended, heir_told, noted_for, own_result, owned, state_made, adopt_result, acknowledged_line, acknowledged_result, saved_of_reply, due_of_reply, due_met, due_requested, go_on_with, follower_ask, again_with, again_result, requested_once_more, rolled_line, rolled_back, roll_back, got_line, taken_as, message_result, call_made, passive_made, step_made, frame_taken, frames_taken, fault_met, bytes_counted, with_end_line, with_last_line, rest_met, bytes_taken, dial_bytes}
+use Rattle.node_core.proofs.Dues.{due_always}
+use Rattle.node_core.specs.Dials.{PlainDial, DialResult, untold, is_broken, is_over, with_consumer, with_line, with_left, over_for, adopted_line, granted_with, is_done_answer, is_done, is_pending, role_line, state_met, pend_result, pended, heir_told, noted_for, own_result, owned, state_made, adopt_result, acknowledged_line, acknowledged_result, due_requested, go_on_with, follower_ask, again_with, again_result, requested_once_more, rolled_line, rolled_back, roll_back, got_line, taken_as, message_result, call_made, passive_made, step_made, frame_taken, frames_taken, fault_met, bytes_counted, with_end_line, with_last_line, rest_met, bytes_taken, dial_bytes}
 
 -- one of two
 pub either : {A : Type 0} (P : A → Type 0) (b : Bool) (x y : A) → P x → P y → P (if b then x else y)
@@ -280,21 +281,9 @@ acknowledged_keeps old s seq saved kept =
     lines_keep old (again_with s (acknowledged seq c)) (line ∷ []) (one_own c.dialed line (refl, refl, refl))
     (wrote_keeps old s (acknowledged seq c).0 (Acknowledges seq) wrote tt refl (omega arith) (sym (append-nil wrote)) kept)
 
-met_keeps : (old s : DialResult) (seq : ℕ) → KeepsLink old s → Always (FollowsAt old.dial.consumer.dialed) (KeepsLink old) (due_met s seq)
-met_keeps old s seq kept =
-    let vb : ℕ = s.dial.consumer.dialed.vb in
-    either (λ (p : Prog DialResult). Always (FollowsAt old.dial.consumer.dialed) (KeepsLink old) p) (may_acknowledge seq s.dial.consumer)
-    (Call vb call.Stat (λ reply. Done (acknowledged_result seq s (saved_of_reply reply)))) (Done s)
-    ((ap (λ d. d.vb) kept.dialed, inl tt), λ reply any. acknowledged_keeps old s seq (saved_of_reply reply) kept) kept
-
 -- what is due
 due_keeps : (old s : DialResult) → KeepsLink old s → Always (FollowsAt old.dial.consumer.dialed) (KeepsLink old) (due_requested s)
-unfolding due_requested
-due_keeps old s kept =
-    let vb : ℕ = s.dial.consumer.dialed.vb in
-    either (λ (p : Prog DialResult). Always (FollowsAt old.dial.consumer.dialed) (KeepsLink old) p) (is_streaming s.dial.consumer.handshake)
-    (Call vb call.Due (λ reply. due_met s (due_of_reply reply))) (Done s)
-    ((ap (λ d. d.vb) kept.dialed, inl tt), λ reply any. met_keeps old s (due_of_reply reply) kept) kept
+due_keeps old s kept = due_always (KeepsLink old) s (λ seq saved. acknowledged_keeps old s seq saved kept) kept (FollowsAt old.dial.consumer.dialed) (ap (λ d. d.vb) kept.dialed, inl tt)
 
 -- the producer's log
 log_follows : (old s : DialResult) (log : List LogEntry) → KeepsLink old s → Always (FollowsAt old.dial.consumer.dialed) (KeepsLink old) (go_on_with log s)

@@ -3,6 +3,7 @@ pub mod Keys
 pub mod Admins
 pub mod Began
 pub mod Conduct
+pub mod Dues
 pub mod Counted
 pub mod Deliveries
 pub mod Noops

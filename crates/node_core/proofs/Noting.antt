@@ -1,6 +1,6 @@
 -- what is told of what is written down
 use Rattle.std.proofs.Common.{◌≡◌, ℕ, Bool, true, false, refl, ap, sym, ◌∙◌, subst, Option, Some, None}
-use Rattle.std.specs.Prelude.{◌≢◌, ◌↔◌, if◌then◌else◌, is_some}
+use Rattle.std.specs.Prelude.{◌≢◌, ◌↔◌, if◌then◌else◌}
 use Rattle.vb_events.specs.declared.event.Answer.{Answer}
 use Rattle.vb_events.specs.declared.event.Answer.TheVariants as line
 use Rattle.vb_events.specs.declared.event.Cause.TheVariants as cause
@@ -29,7 +29,7 @@ use Rattle.vb_calls.specs.Shelves.{Ask, Append, Look, Got, Flush, Idle, Out, Wri
 use Rattle.node_core.specs.declared.admin.AdminCall.{AdminCall}
 use Rattle.node_core.specs.declared.admin.AdminCall.TheVariants as admin
 use Rattle.node_core.specs.Admin.{AdminResult, admin_call, admin_result, promote_cause, promote_result, role_result, noted_answer, role_noted, role_at, admin_job}
-use Rattle.node_core.specs.Flushing.{FlushResult, flush_result, flush_if, flush_at}
+use Rattle.node_core.specs.Flushing.{FlushResult, flush_result, flush_at}
 use Rattle.node_core.specs.Noting.{Gives, IsRefused, Lacks, IsNoted, ChangesRole, FlushesBy, FlushesAt}
 
 -- ---- roles
@@ -316,28 +316,18 @@ module _ {W J : Type 0} (step : W → ℕ → VbCall → Option VbReply → W �
   ran_always answers (Request v ask next) old kept a now left always ran = ran_always answers (next ran.0) old ran.1 a now left (always.1 ran.0) ran.3
 
   module _ (n v : ℕ) (p : FlushPart) where
-    by_reply : (reply : Option VbReply) (old mid : W) (kept : J) (told : FlushResult) (now : W) (left : J) → step old v call.Log reply mid
-        → RanJob step asks (flush_if n v p (is_some reply)) mid kept told now left → FlushesAt step asks v p old kept told now left
+    pub flushes_are_refused : (there : Bool) (old : W) (kept : J) (told : FlushResult) (now : W) (left : J) → RanJob step asks (flush_at n v p there) old kept told now left → FlushesAt asks there v p old kept told now left
     unfolding flush_job kind_said
-    by_reply None old mid kept told now left asked ran = record {
-      reply = None;
-      mid = mid;
-      asked = asked;
+    flushes_are_refused false old kept told now left ran = record {
       absent = (λ said. refl, λ none. ap (λ t. t.answer) ran.0);
       silent = λ none. (ran.1, ran.2);
-      there = λ some. absurd (some refl);
+      made = λ some. cc;
     }
-    by_reply (Some r) old mid kept told now left asked ran =
+    flushes_are_refused true old kept told now left ran =
         let is : kind_said told.answer ≡ kind_by p ran.0 =
-        ran_always (λ (t : FlushResult). kind_said t.answer ≡ kind_by p ran.0) (bind_job (part_job v p ran.0) (λ came. Ended (flush_result n v came))) mid ran.1 told now left (tells_by n v p ran.0) ran.3 in
+        ran_always (λ (t : FlushResult). kind_said t.answer ≡ kind_by p ran.0) (bind_job (part_job v p ran.0) (λ came. Ended (flush_result n v came))) old ran.1 told now left (tells_by n v p ran.0) ran.3 in
         record {
-          reply = Some r;
-          mid = mid;
-          asked = asked;
           absent = (λ said. absurd (there_by p ran.0 (sym is ∙ is_kind 3 (line.No cause.UnknownVb) told.answer said refl)), λ none. cc);
           silent = λ none. cc;
-          there = λ some. noted_by_kind asks v p ran.0 kept ran.1 told ran.2 is;
+          made = λ some. noted_by_kind asks v p ran.0 kept ran.1 told ran.2 is;
         }
-
-    pub flushes_are_refused : (old : W) (kept : J) (told : FlushResult) (now : W) (left : J) → RanJob step asks (flush_at n v p) old kept told now left → FlushesAt step asks v p old kept told now left
-    flushes_are_refused old kept told now left ran = by_reply ran.0 old ran.1 kept told now left ran.2 ran.3

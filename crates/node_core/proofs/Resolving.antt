@@ -1,6 +1,6 @@
 -- what is told of durable writes
 use Rattle.std.proofs.Common.{◌≡◌, ℕ, Bool, true, false, [], map, refl, ap, sym, ◌∙◌, subst, inl, inr, Option, Some, None}
-use Rattle.std.specs.Prelude.{if◌then◌else◌, is_some}
+use Rattle.std.specs.Prelude.{if◌then◌else◌}
 use Rattle.durability.specs.Chains.{Links}
 use Rattle.vb_events.specs.declared.event.Answer.TheVariants as line
 use Rattle.vb_events.specs.declared.event.Cause.{Cause}
@@ -29,7 +29,7 @@ use Rattle.vb_calls.specs.Shelves.{Ask, Got, Flush, Idle, Out, Written, Fate, St
 use Rattle.node_core.specs.declared.admin.AdminCall.{AdminCall}
 use Rattle.node_core.specs.declared.admin.AdminCall.TheVariants as admin
 use Rattle.node_core.specs.Admin.{AdminResult, admin_call, admin_result, admin_job, promote_result, role_at, role_noted, role_result}
-use Rattle.node_core.specs.Flushing.{FlushResult, chain_changed, flush_at, flush_if, flush_result, resolved_in, settled_by, settled_result, ticked}
+use Rattle.node_core.specs.Flushing.{FlushResult, chain_changed, flush_at, flush_result, resolved_in, settled_by, settled_result, ticked}
 use Rattle.node_core.specs.Noting.{Gives, IsRefused}
 use Rattle.node_core.specs.Resolving.{HandsOver, TellsSettled, RoleHandsOver, Finished, StepHandsOver, DoneHandsOver, Settled}
 use Rattle.node_core.proofs.Noting.{given_job}
@@ -175,14 +175,10 @@ module _ {W J : Type 0} (step : W → ℕ → VbCall → Option VbReply → W �
     made = λ fine. is_finished seq mid kept told now left ran;
   }
 
-  by_log : (reply : Option VbReply) (mid : W) (kept : J) (told : FlushResult) (now : W) (left : J)
-      → RanJob step asks (flush_if n v part.Done (is_some reply)) mid kept told now left → DoneHandsOver step v told now
+  pub dones_hand_over : (there : Bool) (old : W) (kept : J) (told : FlushResult) (now : W) (left : J) → RanJob step asks (flush_at n v part.Done there) old kept told now left → DoneHandsOver step v told now
   unfolding flush_job TellsOf
-  by_log None mid kept told now left ran = refused_done told now cause.UnknownVb (ap (λ t. t.answer) ran.0) (ap (λ t. t.resolved) ran.0)
-  by_log (Some r) mid kept told now left ran = after_look ran.0 mid ran.1 told now left ran.3
-
-  pub dones_hand_over : (old : W) (kept : J) (told : FlushResult) (now : W) (left : J) → RanJob step asks (flush_at n v part.Done) old kept told now left → DoneHandsOver step v told now
-  dones_hand_over old kept told now left ran = by_log ran.0 ran.1 kept told now left ran.3
+  dones_hand_over false old kept told now left ran = refused_done told now cause.UnknownVb (ap (λ t. t.answer) ran.0) (ap (λ t. t.resolved) ran.0)
+  dones_hand_over true old kept told now left ran = after_look ran.0 old ran.1 told now left ran.3
 
   -- what is to be done behind an append
   Behind : Job Flushed → W → FlushResult → W → J → Type 0
@@ -228,14 +224,10 @@ module _ {W J : Type 0} (step : W → ℕ → VbCall → Option VbReply → W �
   part_over part.All (Out batch) mid kept told now left ran = save_over batch mid kept told now left ran
   part_over part.All (Written seq) mid kept told now left ran = inr (is_finished seq mid kept told now left ran)
 
-  step_by_log : (p : FlushPart) (reply : Option VbReply) (mid : W) (kept : J) (told : FlushResult) (now : W) (left : J)
-      → RanJob step asks (flush_if n v p (is_some reply)) mid kept told now left → StepHandsOver step v told now
+  pub steps_hand_over : (p : FlushPart) (there : Bool) (old : W) (kept : J) (told : FlushResult) (now : W) (left : J) → RanJob step asks (flush_at n v p there) old kept told now left → StepHandsOver step v told now
   unfolding flush_job TellsOf
-  step_by_log p None mid kept told now left ran = inl (ap (λ t. t.resolved) ran.0)
-  step_by_log p (Some r) mid kept told now left ran = part_over p ran.0 mid ran.1 told now left ran.3
-
-  pub steps_hand_over : (p : FlushPart) (old : W) (kept : J) (told : FlushResult) (now : W) (left : J) → RanJob step asks (flush_at n v p) old kept told now left → StepHandsOver step v told now
-  steps_hand_over p old kept told now left ran = step_by_log p ran.0 ran.1 kept told now left ran.3
+  steps_hand_over p false old kept told now left ran = inl (ap (λ t. t.resolved) ran.0)
+  steps_hand_over p true old kept told now left ran = part_over p ran.0 old ran.1 told now left ran.3
 
 -- ---- chains and ticks
 

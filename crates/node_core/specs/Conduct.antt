@@ -26,7 +26,7 @@ use Rattle.dcp_consumer.specs.States.{state_answered}
 use Rattle.dcp_consumer.specs.declared.handshake.Dialed.{Dialed}
 use Rattle.node_core.specs.Dials.{PlainDial, DialResult}
 
--- the calls of a follower: it takes a failover log over, a marker or a change, goes back, names what it asks for, or tells what it may acknowledge and up to where it has written all down
+-- the calls of a follower: it takes a failover log over, a marker or a change, goes back, names what it asks for, or tells what it may acknowledge
 abbrev pub IsFollowing : VbCall → Type 0
 IsFollowing (call.Adopt log) = Unit {0}
 IsFollowing (call.Marker start end) = Unit {0}
@@ -34,7 +34,6 @@ IsFollowing (call.Receive change) = Unit {0}
 IsFollowing (call.RollTo at image cas) = Unit {0}
 IsFollowing call.Ask = Unit {0}
 IsFollowing call.Due = Unit {0}
-IsFollowing call.Stat = Unit {0}
 IsFollowing other = ⊥
 
 -- the calls of one that takes over: it tells its role, is to take over, takes over, and tells its failover log
@@ -114,20 +113,17 @@ pub record KeepsLink (old new : DialResult) : Type 0 where
   pub writes : (more : List Writes) × (new.out ≡ old.out ++ writes_past old.dial.consumer.dialed.vb old.dial.consumer.asked more) × (new.dial.consumer.asked ≡ old.dial.consumer.asked + asks_in more) × All (MayWrite old.dial.consumer.dialed) more
   pub lines : (more : List Event) × (new.events ≡ old.events ++ more) × All (IsOfDial old.dial.consumer.dialed) more
 
--- the call of a dial that comes next: any but Due and Stat; Due; or Stat, as this seqno is to be acknowledged
+-- the call of a dial that comes next: any but Due; or Due
 pub data NextCall : Type 0 where
   AnyOther : NextCall
   DueNext : NextCall
-  StatNext : ℕ → NextCall
 
 -- this call may come next
 abbrev pub MayCome : NextCall → VbCall → Type 0
 MayCome AnyOther call.Due = ⊥
-MayCome AnyOther call.Stat = ⊥
 MayCome AnyOther other = Unit {0}
 MayCome DueNext call.Due = Unit {0}
-MayCome (StatNext seq) call.Stat = Unit {0}
-MayCome next other = ⊥
+MayCome DueNext other = ⊥
 
 -- where the calls of a dial stand: which comes next, the last seqno that was acknowledged, and those that were acknowledged since it began, each with the seqno up to which all was written down
 pub record Dues : Type 0 where
@@ -151,20 +147,14 @@ message_behind d answer.Done = record d { next = DueNext }
 message_behind d (answer.Range ss se) = record d { next = DueNext }
 message_behind d other = d
 
--- behind a Due of a seqno above the last one comes Stat, and behind any other neither
-abbrev pub due_behind : Dues → VbAnswer → Dues
-due_behind d (answer.Num seq) = record d { next = if nat_lt d.last seq then StatNext seq else AnyOther }
-due_behind d other = record d { next = AnyOther }
-
 -- all up to a seqno was acknowledged, where all up to `saved` is written down
 abbrev pub with_met : Dues → ℕ → ℕ → Dues
 with_met d seq saved = record { next = AnyOther; last = seq; met = d.met ++ (seq, saved) ∷ [] }
 
--- what was due is acknowledged behind Stat, whatever that says
-abbrev pub stat_behind : Dues → NextCall → VbAnswer → Dues
-stat_behind d (StatNext seq) (answer.Stat spans items cursors saved high) = with_met d seq saved
-stat_behind d (StatNext seq) other = with_met d seq 0
-stat_behind d next other = d
+-- behind a Due of a seqno above the last one that seqno is acknowledged, with what the same answer says is written down, and behind any other nothing
+abbrev pub due_behind : Dues → VbAnswer → Dues
+due_behind d (answer.Dues seq saved) = if nat_lt d.last seq then with_met d seq saved else record d { next = AnyOther }
+due_behind d other = record d { next = AnyOther }
 
 -- where a dial's calls stand behind one that was answered so
 abbrev pub behind : Dues → VbCall → VbAnswer → Dues
@@ -172,7 +162,6 @@ behind d (call.Adopt log) a = log_behind d a
 behind d (call.Marker start end) a = message_behind d a
 behind d (call.Receive change) a = message_behind d a
 behind d call.Due a = due_behind d a
-behind d call.Stat a = stat_behind d d.next a
 behind d other a = d
 
 -- whatever a job is replied and its journals answer, each call may come where it stands, and at its end holds what is to hold there
@@ -210,7 +199,7 @@ abbrev pub seqnos_of_line : Event → Option (ℕ × ℕ)
 seqnos_of_line (event.Acknowledged stream n v seq saved) = Some (seq, saved)
 seqnos_of_line other = None
 
--- Neither Due nor Stat is left to come; what was written and told as acknowledged is what was to be acknowledged, and these numbers of bytes; the NOOPs of these opaques were answered; and the bytes that came and are no whole frame yet stay as they were.
+-- No Due is left to come; what was written and told as acknowledged is what was to be acknowledged, and these numbers of bytes; the NOOPs of these opaques were answered; and the bytes that came and are no whole frame yet stay as they were.
 pub record Acknowledged (bytes noops : List ℕ) (old : DialResult) (d : Dues) (new : DialResult) : Type 0 where
   pub next : d.next ≡ AnyOther
   pub last : d.last ≡ new.dial.consumer.acked

@@ -112,35 +112,24 @@ acknowledged_result seq s saved = record {
   out = s.out ++ (acknowledged seq s.dial.consumer).1;
 }
 
--- up to where a vBucket has written all down
-abbrev pub saved_in : VbAnswer → ℕ
-saved_in (answer.Stat spans items cursors saved high) = saved
-saved_in other = 0
+-- the seqno that a vBucket may acknowledge, 0 for none, and the one up to which it has written all down, where it says so
+abbrev pub dues_in : VbAnswer → Option (ℕ × ℕ)
+dues_in (answer.Dues seq saved) = Some (seq, saved)
+dues_in other = None
 
 -- the same of a reply
-abbrev pub saved_of_reply : Option VbReply → ℕ
-saved_of_reply None = 0
-saved_of_reply (Some reply) = saved_in reply.answer
+abbrev pub dues_of_reply : Option VbReply → Option (ℕ × ℕ)
+dues_of_reply None = None
+dues_of_reply (Some reply) = dues_in reply.answer
 
--- the seqno that a vBucket may acknowledge, 0 for none
-abbrev pub due_in : VbAnswer → ℕ
-due_in (answer.Num seq) = seq
-due_in other = 0
-
--- the same of a reply
-abbrev pub due_of_reply : Option VbReply → ℕ
-due_of_reply None = 0
-due_of_reply (Some reply) = due_in reply.answer
-
--- it is acknowledged where it is above the last one; the line tells up to where the vBucket has written all down
-abbrev pub due_met : DialResult → ℕ → Prog DialResult
-due_met s seq =
-    if may_acknowledge seq s.dial.consumer then Call s.dial.consumer.dialed.vb call.Stat (λ reply. Done (acknowledged_result seq s (saved_of_reply reply)))
-    else Done s
+-- what is due is acknowledged where it is above the last one; the line tells up to where the vBucket has written all down, by the same reply
+abbrev pub due_met : DialResult → Option (ℕ × ℕ) → DialResult
+due_met s None = s
+due_met s (Some (seq, saved)) = if may_acknowledge seq s.dial.consumer then acknowledged_result seq s saved else s
 
 -- while its stream is granted, the vBucket is asked what it may acknowledge
 unfoldable pub due_requested : DialResult → Prog DialResult
-due_requested s = if is_streaming s.dial.consumer.handshake then Call s.dial.consumer.dialed.vb call.Due (λ reply. due_met s (due_of_reply reply)) else Done s
+due_requested s = if is_streaming s.dial.consumer.handshake then Call s.dial.consumer.dialed.vb call.Due (λ reply. Done (due_met s (dues_of_reply reply))) else Done s
 
 -- the vBucket is to take the producer's failover log over
 unfoldable pub go_on_with : List LogEntry → DialResult → Prog DialResult

@@ -1,5 +1,5 @@
 -- what a step of writing a vBucket down comes to, and a call that lets it resolve durable writes
-use Rattle.std.specs.Prelude.{ℕ, ◌==◌, Bool, true, false, if◌then◌else◌, List, [], ◌∷◌, Option, Some, None, is_some}
+use Rattle.std.specs.Prelude.{ℕ, ◌==◌, Bool, true, false, if◌then◌else◌, List, [], ◌∷◌, Option, Some, None}
 use Rattle.vb_events.specs.declared.event.Answer.{Answer}
 use Rattle.vb_events.specs.declared.event.Answer.TheVariants as line
 use Rattle.vb_events.specs.declared.event.Cause.TheVariants as cause
@@ -15,7 +15,7 @@ use Rattle.vb_calls.specs.declared.journals.Flushed.{Flushed}
 use Rattle.vb_calls.specs.declared.journals.Flushed.TheVariants as flushed
 use Rattle.node_core.specs.Calls.{own_lines, own_lines_if}
 use Rattle.vb_calls.specs.Flushes.{flush_job}
-use Rattle.vb_calls.specs.Jobs.{Job, Ended, Call, bind_job}
+use Rattle.vb_calls.specs.Jobs.{Job, Ended, bind_job}
 use Rattle.vb_calls.specs.Programs.{Prog}
 use Rattle.vb_calls.specs.Programs as prog
 use Rattle.durability.specs.Chains.{Links}
@@ -60,14 +60,10 @@ flush_result n v flushed.NothingTaken = flush_answered (line.No cause.NothingTak
 flush_result n v flushed.Closed = flush_answered (line.No cause.Closed)
 flush_result n v flushed.DiskFailed = flush_answered (line.No cause.Disk)
 
--- a step for a vBucket that is there
-abbrev pub flush_if : ℕ → ℕ → FlushPart → Bool → Job FlushResult
-flush_if n v part true = bind_job (flush_job v part) (λ came. Ended (flush_result n v came))
-flush_if n v part false = Ended (flush_answered (line.No cause.UnknownVb))
-
--- a step of writing the vBucket v of the node n down, if there is one: one that is there has a failover log
-abbrev pub flush_at : ℕ → ℕ → FlushPart → Job FlushResult
-flush_at n v part = Call v call.Log (λ reply. flush_if n v part (is_some reply))
+-- a step of writing the vBucket v of the node n down, where there is one, as the access to them says
+abbrev pub flush_at : ℕ → ℕ → FlushPart → Bool → Job FlushResult
+flush_at n v part true = bind_job (flush_job v part) (λ came. Ended (flush_result n v came))
+flush_at n v part false = Ended (flush_answered (line.No cause.UnknownVb))
 
 -- a call of an active vBucket's chain was made: the lines of the changes that it made at once. Any other vBucket has the wrong role
 abbrev pub settled_by : ℕ → ℕ → VbReply → VbAnswer → FlushResult

@@ -25,7 +25,7 @@ use Rattle.node_core.specs.Peers.{PlainPeer, new_peer}
 
 -- a stream of this number of a vBucket, all of which is put; it gives its vBucket up, or not
 abbrev pub stream_row : ℕ → ℕ → Bool → Option GiveUp → PlainStream
-stream_row id v ended gives = record { id = id; vb = v; opaque = 4; until = 100; items = []; next = 0; marked = None; reached = 0; ended = ended; gives = gives }
+stream_row id v ended gives = record { id = id; vb = v; opaque = 4; until = 100; first = record { start = 0; as_sets = false }; items = []; next = 0; marked = None; reached = 0; ended = ended; gives = gives }
 
 -- in the step in which it is given up, and behind it
 abbrev pub to_yield : Option GiveUp
@@ -40,7 +40,7 @@ peer_row streams = let peer = new_peer (record { stream = name.Link 6; node = 1;
 
 -- the stream of this number, as its vBucket has it
 abbrev pub fed : ℕ → Stream
-fed id = record { id = id; ask = record { uuid = 0; start = 0; end = 100; ss = 0; se = 0; flags = 0 }; sync = false; place = 0; taken = true }
+fed id = record { id = id; ask = record { uuid = 0; start = 0; end = 100; ss = 0; se = 0; flags = 0 }; sync = false; place = 0; cursor = true; taken = true }
 
 -- a prepare with this seqno, for which this one waits
 abbrev pub waits_row : ℕ → ℕ → Waiting

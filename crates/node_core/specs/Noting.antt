@@ -1,5 +1,5 @@
 -- what is told of what is written down, in words
-use Rattle.std.specs.Prelude.{◌≡◌, ◌≢◌, ◌↔◌, ℕ, true, false, [], ◌∷◌, Option, Some, None}
+use Rattle.std.specs.Prelude.{◌≡◌, ◌≢◌, ◌↔◌, ℕ, Bool, true, false, [], ◌∷◌, Option, Some, None}
 use Rattle.vb_events.specs.declared.event.Answer.TheVariants as line
 use Rattle.vb_events.specs.declared.event.Cause.TheVariants as cause
 use Rattle.vb_types.specs.declared.journal.Batch.{Batch}
@@ -67,14 +67,11 @@ module _ {W J : Type 0} (step : W → ℕ → VbCall → Option VbReply → W �
     pub refused : IsRefused reply → (now ≡ mid) × (left ≡ kept) × (told.answer ≢ line.No cause.Closed) × (told.answer ≢ line.No cause.Disk)
     pub made : (IsRefused reply → ⊥) → IsNoted v new mid kept told now left
 
-  -- A step of writing down is refused for want of a vBucket exactly where there is none, and then asks the journal for nothing.
-  pub record FlushesAt (v : ℕ) (step_of : FlushPart) (old : W) (kept : J) (told : FlushResult) (now : W) (left : J) : Type 0 where
-    pub reply : Option VbReply
-    pub mid : W
-    pub asked : step old v call.Log reply mid
-    pub absent : (told.answer ≡ line.No cause.UnknownVb) ↔ (reply ≡ None)
-    pub silent : reply ≡ None → (now ≡ mid) × (left ≡ kept)
-    pub there : reply ≢ None → FlushesBy asks v step_of kept told
+-- A step of writing down is refused for want of a vBucket exactly where the access has none, and then calls none, and asks the journal for nothing.
+pub record FlushesAt {W J : Type 0} (asks : J → ℕ → (ask : Ask) → Got ask → J → Type 0) (there : Bool) (v : ℕ) (step_of : FlushPart) (old : W) (kept : J) (told : FlushResult) (now : W) (left : J) : Type 0 where
+  pub absent : (told.answer ≡ line.No cause.UnknownVb) ↔ (there ≡ false)
+  pub silent : there ≡ false → (now ≡ old) × (left ≡ kept)
+  pub made : there ≡ true → FlushesBy asks v step_of kept told
 
 -- The first record of a vBucket is appended. The answer is that all went well exactly where it stands, that an earlier append failed exactly where one did, and that the disk failed exactly where it does.
 pub record FirstNoted {J : Type 0} (asks : J → ℕ → (ask : Ask) → Got ask → J → Type 0) (v : ℕ) (what : Record) (kept : J) (out : NodeOut) (left : J) : Type 0 where

@@ -394,10 +394,10 @@ module _ {W J : Type 0} (step : W → ℕ → VbCall → Option VbReply → W �
     pub dials : (other : ℕ) → value_at new.dials other ≡ (if is_some told.ended && other == v then None else value_at old.dials other)
     pub rest : new ≡ record old { vbs = new.vbs; disks = new.disks; conns = new.conns; dials = new.dials }
 
-  -- a step of writing the vBucket v down
-  pub record Wrote (v : ℕ) (part : FlushPart) (old : Node W J) (out : NodeOut) (new : Node W J) : Type 0 where
+  -- a step of writing the vBucket v down, if there is one
+  pub record Wrote (has : W → ℕ → Bool) (v : ℕ) (part : FlushPart) (old : Node W J) (out : NodeOut) (new : Node W J) : Type 0 where
     pub told : FlushResult
-    pub ran : RanJob step asks (flush_at old.number v part) old.vbs old.disks told new.vbs new.disks
+    pub ran : RanJob step asks (flush_at old.number v part (has old.vbs v)) old.vbs old.disks told new.vbs new.disks
     pub said : out ≡ flush_out told
     pub rest : new ≡ record old { vbs = new.vbs; disks = new.disks }
 

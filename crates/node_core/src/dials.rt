@@ -14,7 +14,7 @@ use crate::{Alloc, NodeOut};
 use bytes::{Bytes, BytesMut};
 use dcp_consumer::{Consumer, ConsumerStep, Dialed, Passive};
 use mcbp_frame::{Frame, FrameReader};
-use replies::{due_of_reply, follower_ask, is_done, saved_of_reply};
+use replies::{dues_of_reply, follower_ask, is_done};
 use std::alloc::{AllocError, Global};
 use std::marker::Model;
 use vb_calls::{Journals, Rolled, VbAccess, VbAnswer, VbCall, VbReply, Wrote};
@@ -119,18 +119,16 @@ impl DialTurn {
     }
 
     /// Acknowledges what is due, where it is above the last one that was acknowledged.
-    #[tactic(auto, using(vb_calls::proofs::Runs::runs))]
-    fn meet_due<A: VbAccess>(&mut self, vbs: &mut A, seq: u64) -> Alloc<()>
-        ensures ok { OnOk result (Ran A.step (due_met self.old seq) vbs.old self.new vbs.new) }
-        ensures err { OnErr result (Began A.step (due_met self.old seq) vbs.old vbs.new) }
+    fn meet_due(&mut self, due: Option<(u64, u64)>) -> Alloc<()>
+        ensures ok { OnOk result (self.new ≡ due_met self.old due) }
         ensures link { self.new.dial.consumer.dialed ≡ self.old.dial.consumer.dialed }
     {
+        let Some((seq, saved)) = due else {
+            return Ok(());
+        };
         if !self.consumer.may_acknowledge(seq) {
             return Ok(());
         }
-        let reply = vbs.call(self.consumer.dialed().vb, VbCall::Stat)?;
-        let saved = saved_of_reply(&reply);
-        drop(reply);
         self.write_acknowledgement(seq, saved)
     }
 
@@ -145,9 +143,9 @@ impl DialTurn {
             return Ok(());
         }
         let reply = vbs.call(self.consumer.dialed().vb, VbCall::Due)?;
-        let due = due_of_reply(&reply);
+        let due = dues_of_reply(&reply);
         drop(reply);
-        self.meet_due(vbs, due)
+        self.meet_due(due)
     }
 
     /// Tells of the producer's failover log, where the vBucket took it over: the stream is granted. Any

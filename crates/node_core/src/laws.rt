@@ -1,5 +1,5 @@
 //! What holds of every node. Each law is a function with no work to do, and its clauses are the law.
-ghost use Rattle.std.specs.Prelude.{◌≡◌, ◌≢◌, ◌++◌, ◌∷◌, [], ℕ, List, map, None, Some, false, true, if◌then◌else◌};
+ghost use Rattle.std.specs.Prelude.{◌≡◌, ◌≢◌, ◌++◌, ◌∷◌, [], ℕ, Bool, List, map, None, Some, false, true, if◌then◌else◌};
 ghost use Rattle.std.specs.List.{All, flat_map};
 ghost use Rattle.{node_core.specs.Conduct.{FollowsAt, RollsAt, KeepsLink}, node_core.specs.Dials.{PlainDial, untold, is_over, with_left, with_last_line, dial_bytes}};
 ghost use Rattle.{node_core.specs.declared.node.TheConstants.{MAX_VBS}, vb_calls.specs.Jobs.{Ended, AlwaysJob, RanJob, after_job}, vb_calls.specs.Programs.{AnyReply, Ran}};
@@ -43,10 +43,10 @@ pub fn dials_follow()
 {}
 
 /// Whatever is replied, a dial asks what is due right behind each log and each message that is taken, as
-/// its stream is granted then, and nowhere else. Right behind a reply that names a seqno above the last
-/// one that it acknowledged, and nowhere else, it asks for Stat; and it acknowledges that seqno, and tells
-/// so in one line, with what Stat says is written down. It acknowledges no other seqno. After more was
-/// written down it asks once, if its stream is granted, and else does nothing.
+/// its stream is granted then, and nowhere else. It acknowledges the seqno that the reply names, where
+/// that is above the last one that it acknowledged, and tells so in one line, with what the same reply
+/// says is written down. It acknowledges no other seqno. After more was written down it asks once, if its
+/// stream is granted, and else does nothing.
 ///
 /// Last of all that it writes of a delivery, it acknowledges by one number how long the frames that
 /// count and were whole in it are together: exactly where there is one, its link has a buffer, and goes
@@ -99,12 +99,13 @@ pub fn first_records<J: Journals>()
     ensures { NotesFirst J.asks }
 {}
 
-/// A step of writing down is refused for want of a vBucket exactly where there is none; a take because
-/// a batch is on its way exactly where one is; and a save or a done because none is exactly where there
-/// is none that it could be made of.
+/// A step of writing down is refused for want of a vBucket exactly where the access says that there is
+/// none, and then no vBucket is called and no journal asked; a take because a batch is on its way exactly
+/// where one is; and a save or a done because none is exactly where there is none that it could be made
+/// of.
 pub fn flushes_are_refused<A: VbAccess, J: Journals>()
     ensures { (n v : ℕ) (part : ThePart) (old : A) (kept : J) (told : FlushResult) (now : A) (left : J)
-        → RanJob A.step J.asks (flush_at n v part) old kept told now left → FlushesAt A.step J.asks v part old kept told now left }
+        → RanJob A.step J.asks (flush_at n v part (A.has old v)) old kept told now left → FlushesAt J.asks (A.has old v) v part old kept told now left }
 {}
 
 /// What became of durable writes is told with what it came of: a change of role, a done, a chain or a
@@ -115,10 +116,10 @@ pub fn flushes_are_refused<A: VbAccess, J: Journals>()
 pub fn outcomes_are_told<A: VbAccess, J: Journals>()
     ensures roles { (n v : ℕ) (asked : TheCall) (new : TheRole) (old : A) (kept : J) (told : AdminResult) (now : A) (left : J) → Gives asked new
         → RanJob A.step J.asks (admin_job n v asked) old kept told now left → RoleHandsOver A.step v asked old told }
-    ensures dones { (n v : ℕ) (old : A) (kept : J) (told : FlushResult) (now : A) (left : J)
-        → RanJob A.step J.asks (flush_at n v part.Done) old kept told now left → DoneHandsOver A.step v told now }
-    ensures steps { (n v : ℕ) (any : ThePart) (old : A) (kept : J) (told : FlushResult) (now : A) (left : J)
-        → RanJob A.step J.asks (flush_at n v any) old kept told now left → StepHandsOver A.step v told now }
+    ensures dones { (n v : ℕ) (there : Bool) (old : A) (kept : J) (told : FlushResult) (now : A) (left : J)
+        → RanJob A.step J.asks (flush_at n v part.Done there) old kept told now left → DoneHandsOver A.step v told now }
+    ensures steps { (n v : ℕ) (any : ThePart) (there : Bool) (old : A) (kept : J) (told : FlushResult) (now : A) (left : J)
+        → RanJob A.step J.asks (flush_at n v any there) old kept told now left → StepHandsOver A.step v told now }
     ensures chains { (n v : ℕ) (links : Links) (old : A) (told : FlushResult) (now : A)
         → Ran A.step (chain_changed n v links) old told now → Settled A.step n v (call.Chain links) old told now }
     ensures ticks { (n v clock : ℕ) (old : A) (told : FlushResult) (now : A)

@@ -21,6 +21,10 @@ struct Losing {
 impl VbAccess for Losing {
     ghost has = { λ losing v. has_slot losing.vbs v };
 
+    fn is_there(&self, v: u16) -> bool {
+        self.vbs.has(v)
+    }
+
     ghost step = { λ old v call reply new. Unit {0} };
 
     fn call(&mut self, v: u16, call: VbCall) -> Result<Option<VbReply>, AllocError> {

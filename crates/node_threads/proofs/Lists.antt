@@ -1,9 +1,9 @@
 -- one place of the list of seats
 use Rattle.std.proofs.Common.{◌≡◌, ℕ, zero, suc, List, [], ◌∷◌, ◌++◌, map, get_or, set, Option, Some, None, option_map, is_some, Bool, true, false, refl, sym, ap, ◌∙◌, subst, arith, Result, Ok, Err}
-use Rattle.std.specs.Prelude.{◌==◌, ◌||◌, if◌then◌else◌, nat_eq, OnErr, length}
+use Rattle.std.specs.Prelude.{◌==◌, ◌||◌, ◌↔◌, if◌then◌else◌, nat_eq, OnErr, length}
 use Rattle.std.specs.List.{position}
 use Rattle.std.proofs.lemmas.List.{append-nil}
-use Rattle.std.proofs.lemmas.Bool.{eqb-true, eqb-false}
+use Rattle.std.proofs.lemmas.Bool.{eqb-true}
 use Rattle.std.proofs.lemmas.List.Quantifiers.{position-Some}
 use Rattle.vb_calls.specs.declared.calls.VbCall.{VbCall}
 use Rattle.vb_calls.specs.declared.calls.VbReply.{VbReply}
@@ -14,6 +14,7 @@ use Rattle.vbucket.specs.Rows.{row_at}
 use Rattle.vbucket.proofs.RowsAt.{at_place, at_set, at_push, placed, not_placed}
 use Rattle.vb_turn.specs.Words.{view}
 use Rattle.node_threads.specs.declared.slot.SeatSlot.{SeatSlot}
+use Rattle.node_threads.specs.Laws.{MakesExactly}
 use Rattle.node_threads.specs.Seats.{VbView, Row, number_of, slot_number, row_of, rows_of, has_row, CalledVb, With, seat_made, seat_step, mine_in, mine_of}
 
 rows_at : (v : ℕ) (slots : List SeatSlot) → row_at number_of v (rows_of slots) ≡ option_map row_of (row_at slot_number v slots)
@@ -136,9 +137,24 @@ added (x ∷ xs) row e w = by (x.number == w) (row_at number_of w (xs ++ row ∷
 
 -- one that is made enters none
 pub made_quietly : ListsNoMakes seat_made mine_of
-made_quietly old v node role uuid true new (table, o, stands, is) w =
+made_quietly old v node role uuid true new (_, (table, o, stands, is)) w =
     ap (λ (rows : List Row). mine_of rows w) is ∙ (added old _ refl w ∙ sym (append-nil (mine_of old w)))
-made_quietly old v node role uuid false new is w = ap (λ (rows : List Row). mine_of rows w) is ∙ sym (append-nil (mine_of old w))
+made_quietly old v node role uuid false new (_, is) w = ap (λ (rows : List Row). mine_of rows w) is ∙ sym (append-nil (mine_of old w))
+
+-- and one is made exactly where there is no seat of its number
+has_none : (o : Option Row) → o ≡ None → is_some o ≡ true → ⊥
+has_none None e t = cc
+has_none (Some row) e t = cc
+
+pub makes_exactly : MakesExactly
+makes_exactly = record {
+  fresh = λ old new v node role uuid fresh made. by old new v node role uuid fresh made;
+  kept = λ old new v node role uuid made. made.1;
+}
+  where
+    by : (old new : List Row) (v node : ℕ) (role : Role) (uuid : ℕ) (fresh : Bool) → seat_made old v node role uuid fresh new → (fresh ≡ true) ↔ (row_at number_of v old ≡ None)
+    by old new v node role uuid true made = (λ e. no_row old v made.0, λ e. refl)
+    by old new v node role uuid false made = (λ e. cc, λ e. absurd (has_none (row_at number_of v old) e made.0))
 
 pub on_err : {A E : Type 0} (P : Type 0) (r : Result A E) → P → OnErr r P
 on_err P (Ok x) p = tt

@@ -1,8 +1,8 @@
 -- a call over seats is one turn of its vBucket's seat
-use Rattle.std.proofs.Common.{◌≡◌, ◌≢◌, ℕ, ◌+◌, ◌≤◌, List, [], ◌∷◌, ◌++◌, Option, Some, None, Bool, true, false, refl, sym, ap, ◌∙◌, subst, arith, length-append}
+use Rattle.std.proofs.Common.{◌≡◌, ◌≢◌, ℕ, ◌+◌, List, [], ◌∷◌, ◌++◌, Option, Some, None, refl, sym, ap, ◌∙◌, arith, length-append}
 use Rattle.std.specs.Prelude.{◌==◌, if◌then◌else◌, length}
 use Rattle.std.proofs.lemmas.Bool.{eqb-true, eq-eqb, false_from_ne_true}
-use Rattle.vb_calls.specs.Plain.{Plain, plain_step}
+use Rattle.vb_calls.specs.Plain.{plain_step}
 use Rattle.vb_calls.specs.declared.calls.VbCall.{VbCall}
 use Rattle.vb_calls.specs.declared.calls.VbReply.{VbReply}
 use Rattle.vb_turn.specs.Laws.{TurnsAreLegal}
@@ -10,8 +10,8 @@ use Rattle.vb_turn.proofs.Learning.{turns_are_legal}
 use Rattle.vbucket.specs.Highs.{high_of}
 use Rattle.vbucket.specs.Rows.{row_at}
 use Rattle.vbucket.specs.Stands.{StandsFor}
-use Rattle.node_threads.specs.Seats.{VbView, Row, number_of, CalledVb, seat_step}
-use Rattle.node_threads.specs.Laws.{TookTurn, CallsAreTurns, SeatsInNumbers, two_seats}
+use Rattle.node_threads.specs.Seats.{VbView, Row, number_of, CalledVb}
+use Rattle.node_threads.specs.Laws.{TookTurn, CallsAreTurns, SeatsInNumbers}
 
 laws : TurnsAreLegal StandsFor plain_step high_of
 laws = turns_are_legal StandsFor plain_step high_of

@@ -1,5 +1,6 @@
 -- what holds of calls over seats, in other words
-use Rattle.std.specs.Prelude.{◌≡◌, ◌≢◌, ℕ, ◌+◌, ◌≤◌, List, [], ◌∷◌, ◌++◌, length, Option, Some, None, slice_get}
+use Rattle.std.specs.Prelude.{◌≡◌, ◌≢◌, ◌↔◌, ℕ, ◌+◌, ◌≤◌, Bool, true, false, List, [], ◌∷◌, ◌++◌, length, Some, None, slice_get}
+use Rattle.vb_types.specs.declared.role.Role.{Role}
 use Rattle.vb_calls.specs.Plain.{Plain, plain_step}
 use Rattle.vb_calls.specs.declared.calls.VbCall.{VbCall}
 use Rattle.vb_calls.specs.declared.calls.VbReply.{VbReply}
@@ -7,7 +8,7 @@ use Rattle.vb_turn.specs.Laws.{behind}
 use Rattle.vbucket.specs.Kept.{Kept}
 use Rattle.vbucket.specs.Rows.{row_at}
 use Rattle.vbucket.specs.Stands.{StandsFor}
-use Rattle.node_threads.specs.Seats.{Row, number_of, seat_step}
+use Rattle.node_threads.specs.Seats.{Row, number_of, seat_made, seat_step}
 
 -- a seat made a call: at a place behind all that it had seen, where the reply is the plain vBucket's behind the calls before it, whoever made them
 pub record TookTurn (x y : Row) (call : VbCall) (reply : VbReply) : Type 0 where
@@ -26,6 +27,11 @@ pub record CallsAreTurns : Type 0 where
   pub others : (old new : List Row) (v : ℕ) (call : VbCall) (reply : VbReply) → seat_step old v call (Some reply) new → (w : ℕ) → w ≢ v → row_at number_of w new ≡ row_at number_of w old
   pub none : (old new : List Row) (v : ℕ) (call : VbCall) → seat_step old v call None new → (row_at number_of v old ≡ None) × (new ≡ old)
   pub there : (old new : List Row) (v : ℕ) (call : VbCall) (reply : VbReply) → row_at number_of v old ≡ None → seat_step old v call (Some reply) new → ⊥
+
+-- a vBucket is made exactly where there is no seat of its number, and nothing changes where there is one
+pub record MakesExactly : Type 0 where
+  pub fresh : (old new : List Row) (v node : ℕ) (role : Role) (uuid : ℕ) (fresh : Bool) → seat_made old v node role uuid fresh new → (fresh ≡ true) ↔ (row_at number_of v old ≡ None)
+  pub kept : (old new : List Row) (v node : ℕ) (role : Role) (uuid : ℕ) → seat_made old v node role uuid false new → new ≡ old
 
 -- seats of the vBuckets 3 and 5
 abbrev pub two_seats : Row → Row → List Row

@@ -59,10 +59,10 @@ seat_step old v call (Some reply) new =
 abbrev pub Opens : ℕ → Plain → List Row → List Row → Type 0
 Opens v plain old new = (table : TableId) × (o : Kept) × StandsFor o plain × (new ≡ old ++ record { number = v; table = table; view = opened o } ∷ [])
 
--- what is known where a vBucket is to be made
+-- what is known where a vBucket is to be made: it is, exactly where there is no seat of its number, and else nothing changes
 abbrev pub seat_made : List Row → ℕ → ℕ → Role → ℕ → Bool → List Row → Type 0
-seat_made old v node role uuid true new = Opens v (new_vb node role uuid) old new
-seat_made old v node role uuid false new = new ≡ old
+seat_made old v node role uuid true new = (has_row old v ≡ false) × Opens v (new_vb node role uuid) old new
+seat_made old v node role uuid false new = (has_row old v ≡ true) × (new ≡ old)
 
 -- the calls of a seat, each with its reply, in order
 abbrev pub mine_in : Option Row → List (VbCall × VbReply)

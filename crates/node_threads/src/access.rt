@@ -13,6 +13,10 @@ use vbucket::{TurnVb, VBucket};
 impl<'a, W: Wait, G: Gate> VbAccess for VbSeats<'a, W, G> {
     ghost has = { has_row };
 
+    fn is_there(&self, v: u16) -> bool {
+        self.has(v)
+    }
+
     ghost step = { seat_step };
 
     fn call(&mut self, v: u16, call: VbCall) -> Result<Option<VbReply>, AllocError> {

@@ -2,7 +2,7 @@
 ghost use Rattle.vb_calls.specs.declared.calls.VbCall.{VbCall};
 ghost use Rattle.vb_calls.specs.declared.calls.VbReply.{VbReply};
 ghost use Rattle.vb_told.specs.Laws.{ListsCalls, ListsNoMakes};
-ghost use Rattle.node_threads.specs.Laws.{CallsAreTurns, SeatsInNumbers};
+ghost use Rattle.node_threads.specs.Laws.{CallsAreTurns, MakesExactly, SeatsInNumbers};
 ghost use Rattle.node_threads.specs.Seats.{Row, mine_of, seat_made, seat_step};
 
 /// A call over seats enters the list of its own seat, with its reply, and no other list; one that
@@ -16,6 +16,12 @@ pub fn seats_tell()
 /// all calls before it, whoever made them. No other seat changes.
 pub fn calls_are_turns()
     ensures { CallsAreTurns }
+{}
+
+/// A vBucket is made over seats exactly where there is no seat of its number; where there is one, nothing
+/// changes.
+pub fn makes_are_exact()
+    ensures { MakesExactly }
 {}
 
 /// Of seats of the vBuckets 3 and 5: a call to 3 is answered, enters the list of its own seat, and does not

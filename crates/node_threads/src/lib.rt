@@ -8,6 +8,6 @@ mod seats;
 mod slot;
 
 pub use gate::Open;
-pub use laws::{calls_are_turns, seats_in_numbers, seats_tell};
+pub use laws::{calls_are_turns, makes_are_exact, seats_in_numbers, seats_tell};
 pub use seats::VbSeats;
 pub use slot::SeatSlot;

@@ -38,10 +38,10 @@ module _ {W J : Type 0} (step : W → ℕ → VbCall → Option VbReply → W �
     stopped = λ v asked old new began. first_job step mine lists asks (admin_job old.number v asked) old.vbs old.disks new.vbs new.disks began;
   }
 
-  pub flushes : FlushesAreTold step asks mine
-  flushes = record {
-    made = λ v part old out new w. told_job step mine lists asks (flush_at old.number v part) (λ (r : FlushResult). out ≡ flush_out r) old.vbs old.disks w.told new.vbs new.disks w.ran w.said;
-    stopped = λ v part old new began. first_job step mine lists asks (flush_at old.number v part) old.vbs old.disks new.vbs new.disks began;
+  pub flushes : (has : W → ℕ → Bool) → FlushesAreTold step asks mine has
+  flushes has = record {
+    made = λ v part old out new w. told_job step mine lists asks (flush_at old.number v part (has old.vbs v)) (λ (r : FlushResult). out ≡ flush_out r) old.vbs old.disks w.told new.vbs new.disks w.ran w.said;
+    stopped = λ v part old new began. first_job step mine lists asks (flush_at old.number v part (has old.vbs v)) old.vbs old.disks new.vbs new.disks began;
   }
 
 module _ {W J : Type 0} (made : W → ℕ → ℕ → Role → ℕ → Bool → W → Type 0) (asks : J → ℕ → (ask : Ask) → Got ask → J → Type 0) (mine : W → ℕ → List (VbCall × VbReply)) (lists : ListsNoMakes made mine) where

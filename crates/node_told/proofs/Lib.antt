@@ -1,3 +1,4 @@
 mod Ran
 mod Conns
 mod Disks
+mod Settles

@@ -1,5 +1,5 @@
 -- what each call of a node comes to, by its own clauses, over an access that tells its calls
-use Rattle.std.specs.Prelude.{◌≡◌, ◌⊎◌, ℕ, Bool, List, [], Option, Some}
+use Rattle.std.specs.Prelude.{◌≡◌, ◌⊎◌, ℕ, Bool, List, Option, Some}
 use Rattle.slab.specs.Slab.{get}
 use Rattle.mcbp_frame.specs.declared.frame.Frame.{Frame}
 use Rattle.vb_calls.specs.declared.calls.VbCall.{VbCall}
@@ -7,6 +7,7 @@ use Rattle.vb_calls.specs.declared.calls.VbReply.{VbReply}
 use Rattle.vb_calls.specs.declared.calls.Resolved.{Resolved}
 use Rattle.vb_calls.specs.Flushes.{wrote_of}
 use Rattle.vb_calls.specs.Jobs.{BeganJob}
+use Rattle.vb_calls.specs.Programs.{Began}
 use Rattle.vb_calls.specs.Shelves.{Ask, Fate, Got}
 use Rattle.vb_events.specs.declared.event.Cause.TheVariants as cause
 use Rattle.vb_types.specs.declared.journal.FlushPart.{FlushPart}
@@ -16,12 +17,12 @@ use Rattle.node_core.specs.declared.conn.Conn.{Conn}
 use Rattle.node_core.specs.declared.node.Node.{Node}
 use Rattle.node_core.specs.declared.out.NodeOut.{NodeOut}
 use Rattle.node_core.specs.Admin.{admin_job}
-use Rattle.node_core.specs.Dials.{KeptDial, dial_bytes}
-use Rattle.node_core.specs.Flushing.{flush_at}
+use Rattle.node_core.specs.Dials.{KeptDial, dial_bytes, dial_due}
+use Rattle.node_core.specs.Flushing.{chain_changed, flush_at, ticked}
 use Rattle.node_core.specs.GivingUp.{GaveUpAt, Ungiven}
-use Rattle.node_core.specs.Outcomes.{value_at, FedAt, Stopped, Heard, Unheard, PostedAt, Unposted, AnsweredAt, Unanswered, PulledAt, Halted, DialFedAt, DialStopped, Administered, Wrote, Made, HalfMade}
+use Rattle.node_core.specs.Outcomes.{value_at, FedAt, Stopped, Heard, Unheard, PostedAt, Unposted, AnsweredAt, Unanswered, PulledAt, Halted, DialDueAt, DialFedAt, DialStopped, DialUndue, Administered, Settles, Wrote, Made, HalfMade}
 use Rattle.node_core.specs.Outs.{refused_out, made_out, flush_out, dial_ended, admin_out}
-use Rattle.node_told.specs.Told.{FirstOfJob, ToldOfJob, Quiet, PieceTold, PieceBegan, OutcomeTold, OutcomeBegan, AnswerTold, AnswerBegan, PullTold, PullBegan, YieldTold, YieldBegan, DialTold}
+use Rattle.node_told.specs.Told.{FirstOfJob, ToldOfJob, Quiet, PieceTold, PieceBegan, OutcomeTold, OutcomeBegan, AnswerTold, AnswerBegan, PullTold, PullBegan, YieldTold, YieldBegan, DialTold, DueTold, FirstOfProg, ToldProg}
 
 module _ {W : Type 0} (J : Type 0) (mine : W → ℕ → List (VbCall × VbReply)) where
   -- bytes of a peer
@@ -55,6 +56,20 @@ module _ {W : Type 0} (J : Type 0) (step : W → ℕ → VbCall → Option VbRep
     pub given : (frames key : ℕ) (old : Node W J) (out : NodeOut) (new : Node W J) → GaveUpAt step frames key (get old.conns key) old out new → YieldTold mine old.number frames (get old.conns key) out old.vbs new.vbs
     pub stopped : (frames key : ℕ) (old new : Node W J) → Ungiven step frames key old new → (found : Conn) × (get old.conns key ≡ Some found) × YieldBegan mine frames found old.vbs new.vbs
 
+  -- a chain that is set, and a tick
+  pub record SettlesAreTold : Type 0 where
+    pub chained : (v : ℕ) (links : _) (old : Node W J) (out : NodeOut) (new : Node W J) → Settles step (chain_changed old.number v links) old out new
+        → ToldProg mine (chain_changed old.number v links) (λ told. out ≡ flush_out told) old.vbs new.vbs
+    pub unchained : (v : ℕ) (links : _) (old new : Node W J) → Began step (chain_changed old.number v links) old.vbs new.vbs → FirstOfProg mine (chain_changed old.number v links) old.vbs new.vbs
+    pub ticked_once : (v clock : ℕ) (old : Node W J) (out : NodeOut) (new : Node W J) → Settles step (ticked old.number v clock) old out new
+        → ToldProg mine (ticked old.number v clock) (λ told. out ≡ flush_out told) old.vbs new.vbs
+    pub unticked : (v clock : ℕ) (old new : Node W J) → Began step (ticked old.number v clock) old.vbs new.vbs → FirstOfProg mine (ticked old.number v clock) old.vbs new.vbs
+
+  -- what is due once more is written down
+  pub record DuesAreTold : Type 0 where
+    pub acknowledged : (v : ℕ) (old : Node W J) (out : NodeOut) (new : Node W J) → DialDueAt step v (value_at old.dials v) old out new → DueTold mine (value_at old.dials v) out old.vbs new.vbs
+    pub stopped : (v : ℕ) (old new : Node W J) → DialUndue step v old new → (found : KeptDial) × (value_at old.dials v ≡ Some found) × FirstOfProg mine (dial_due found.plain) old.vbs new.vbs
+
 module _ {W J : Type 0} (step : W → ℕ → VbCall → Option VbReply → W → Type 0) (asks : J → ℕ → (ask : Ask) → Got ask → J → Type 0) (mine : W → ℕ → List (VbCall × VbReply)) where
   -- bytes of a dial's producer
   pub record DialsAreTold : Type 0 where
@@ -67,10 +82,12 @@ module _ {W J : Type 0} (step : W → ℕ → VbCall → Option VbReply → W �
         → ToldOfJob mine (admin_job old.number v asked) (λ told. out ≡ admin_out (dial_ended told.ended (value_at old.dials v)) told) old.vbs new.vbs
     pub stopped : (v : ℕ) (asked : AdminCall) (old new : Node W J) → BeganJob step asks (admin_job old.number v asked) old.vbs old.disks new.vbs new.disks → FirstOfJob mine (admin_job old.number v asked) old.vbs new.vbs
 
-  -- a step of writing a vBucket down
-  pub record FlushesAreTold : Type 0 where
-    pub made : (v : ℕ) (part : FlushPart) (old : Node W J) (out : NodeOut) (new : Node W J) → Wrote step asks v part old out new → ToldOfJob mine (flush_at old.number v part) (λ told. out ≡ flush_out told) old.vbs new.vbs
-    pub stopped : (v : ℕ) (part : FlushPart) (old new : Node W J) → BeganJob step asks (flush_at old.number v part) old.vbs old.disks new.vbs new.disks → FirstOfJob mine (flush_at old.number v part) old.vbs new.vbs
+  -- a step of writing a vBucket down, where the access has it
+  pub record FlushesAreTold (has : W → ℕ → Bool) : Type 0 where
+    pub made : (v : ℕ) (part : FlushPart) (old : Node W J) (out : NodeOut) (new : Node W J) → Wrote step asks has v part old out new
+        → ToldOfJob mine (flush_at old.number v part (has old.vbs v)) (λ told. out ≡ flush_out told) old.vbs new.vbs
+    pub stopped : (v : ℕ) (part : FlushPart) (old new : Node W J) → BeganJob step asks (flush_at old.number v part (has old.vbs v)) old.vbs old.disks new.vbs new.disks
+        → FirstOfJob mine (flush_at old.number v part (has old.vbs v)) old.vbs new.vbs
 
 module _ {W J : Type 0} (made : W → ℕ → ℕ → Role → ℕ → Bool → W → Type 0) (asks : J → ℕ → (ask : Ask) → Got ask → J → Type 0) (mine : W → ℕ → List (VbCall × VbReply)) where
   -- a vBucket that is to be made: what became of its first record is some answer of its journal

@@ -12,9 +12,9 @@ use Rattle.node_core.specs.declared.conn.Conn.{Conn}
 use Rattle.node_core.specs.declared.conn.Conn.TheVariants as conn
 use Rattle.node_core.specs.declared.out.NodeOut.{NodeOut}
 use Rattle.node_core.specs.Clients.{client_fed, client_posted, client_pulled}
-use Rattle.node_core.specs.Dials.{KeptDial, dial_bytes}
+use Rattle.node_core.specs.Dials.{KeptDial, dial_bytes, dial_due}
 use Rattle.node_core.specs.GivingUp.{given_out, peer_gives_up}
-use Rattle.node_core.specs.Outs.{refused_out, client_out, client_pull_out, peer_out, pull_out, dial_out}
+use Rattle.node_core.specs.Outs.{done_out, refused_out, client_out, client_pull_out, peer_out, pull_out, dial_out}
 use Rattle.node_core.specs.Peers.{peer_answered, peer_pulled}
 
 module _ {W : Type 0} (mine : W → ℕ → List (VbCall × VbReply)) where
@@ -109,3 +109,8 @@ module _ {W : Type 0} (mine : W → ℕ → List (VbCall × VbReply)) where
   abbrev pub DialTold : List ℕ → Option KeptDial → NodeOut → W → W → Type 0
   DialTold piece (Some kept) out old new = ToldOfJob (dial_bytes piece kept.plain) (λ told. out ≡ dial_out told) old new
   DialTold piece None out old new = Refused out old new
+
+  -- what is due was acknowledged, if anything is; where there is no dial, nothing was called and nothing is told
+  abbrev pub DueTold : Option KeptDial → NodeOut → W → W → Type 0
+  DueTold (Some kept) out old new = ToldProg (dial_due kept.plain) (λ told. out ≡ done_out told.events told.out) old new
+  DueTold None out old new = (out ≡ done_out [] []) × Quiet old new

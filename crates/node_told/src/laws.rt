@@ -4,7 +4,8 @@ ghost use Rattle.std.specs.Prelude.{ℕ, List};
 ghost use Rattle.vb_calls.specs.declared.calls.VbCall.{VbCall};
 ghost use Rattle.vb_calls.specs.declared.calls.VbReply.{VbReply};
 ghost use Rattle.vb_told.specs.Laws.{ListsCalls, ListsNoMakes};
-ghost use Rattle.node_told.specs.Laws.{AnswersAreTold, DialsAreTold, FlushesAreTold, HearingCallsNothing, MakesAreTold, OperatorsAreTold, OutcomesAreTold, PiecesAreTold, PullsAreTold, YieldsAreTold};
+ghost use Rattle.node_threads.specs.Seats.{has_row, mine_of, seat_made, seat_step};
+ghost use Rattle.node_told.specs.Laws.{AnswersAreTold, DialsAreTold, DuesAreTold, FlushesAreTold, HearingCallsNothing, MakesAreTold, OperatorsAreTold, OutcomesAreTold, PiecesAreTold, PullsAreTold, SettlesAreTold, YieldsAreTold};
 
 use vb_calls::{Journals, VbAccess};
 
@@ -52,10 +53,38 @@ pub fn operators_are_told<A: VbAccess, J: Journals>()
 
 /// `flush`: the same of a step of writing a vBucket down.
 pub fn flushes_are_told<A: VbAccess, J: Journals>()
-    ensures { (mine : A → ℕ → List (VbCall × VbReply)) → ListsCalls A.step mine → FlushesAreTold A.step J.asks mine }
+    ensures { (mine : A → ℕ → List (VbCall × VbReply)) → ListsCalls A.step mine → FlushesAreTold A.step J.asks mine A.has }
+{}
+
+/// `set_chain` and `tick`: the same of a call that lets a vBucket resolve durable writes.
+pub fn settles_are_told<A: VbAccess, J: Journals>()
+    ensures { (mine : A → ℕ → List (VbCall × VbReply)) → ListsCalls A.step mine → SettlesAreTold J A.step mine }
+{}
+
+/// `acknowledge`: the same of what a dial asks once more is written down; nothing is called where no
+/// dial is.
+pub fn dues_are_told<A: VbAccess, J: Journals>()
+    ensures { (mine : A → ℕ → List (VbCall × VbReply)) → ListsCalls A.step mine → DuesAreTold J A.step mine }
 {}
 
 /// `make_vb`: no list gains a call, whether a vBucket was made, was there, or memory failed behind it.
 pub fn makes_are_told<A: VbAccess, J: Journals>()
     ensures { (mine : A → ℕ → List (VbCall × VbReply)) → ListsNoMakes A.made mine → MakesAreTold A.made J.asks mine }
+{}
+
+/// All of these of a node over seats (`VbSeats` of node_threads), and with no premise: its lists are the
+/// calls that its own seats made, each with the reply that the vBucket gave at that call's place.
+pub fn nodes_over_seats_are_told<J: Journals>()
+    ensures pieces { PiecesAreTold J seat_step mine_of }
+    ensures hearing { HearingCallsNothing J mine_of }
+    ensures answers { AnswersAreTold J seat_step mine_of }
+    ensures outcomes { OutcomesAreTold J seat_step mine_of }
+    ensures pulls { PullsAreTold J seat_step mine_of }
+    ensures yields { YieldsAreTold J seat_step mine_of }
+    ensures dials { DialsAreTold seat_step J.asks mine_of }
+    ensures operators { OperatorsAreTold seat_step J.asks mine_of }
+    ensures flushes { FlushesAreTold seat_step J.asks mine_of has_row }
+    ensures settles { SettlesAreTold J seat_step mine_of }
+    ensures dues { DuesAreTold J seat_step mine_of }
+    ensures makes { MakesAreTold seat_made J.asks mine_of }
 {}

@@ -146,7 +146,7 @@ never (Some s) (Some t) fails = absurd (cc fails.untold)
 asked : (v : ℕ) (kept left : List (Seen MemStorage)) (ask : Ask) (got : Got ask) (shelves : Shelves) → ShelvesStand mem_device kept shelves → disk_asks mem_device kept v ask got left
     → (got ≡ (shelves_step shelves v ask).1) × ShelvesStand mem_device left (shelves_step shelves v ask).0
 unfolding disk_asks
-asked v kept left ask got shelves stand d = elim (d shelves stand) [ inl plain ↦ plain | inr failed ↦ absurd (never _ _ failed.0) ]
+asked v kept left ask got shelves stand d = elim (d.plainly shelves stand) [ inl plain ↦ plain | inr failed ↦ absurd (never _ _ failed.0) ]
 
 -- the journal of vBucket v is this one
 abbrev IsShelf : ℕ → List (Seen MemStorage) → Shelf → Type 0

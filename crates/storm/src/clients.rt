@@ -116,7 +116,8 @@ fn work_all<R: Threads + Wait + Sync, G: Gate + Sync>(
     )
 }
 
-/// The clients write to these vBuckets, and their seats are taken in again.
+/// The clients write to these vBuckets, and their seats are taken in again. An `Err` is want of memory: then
+/// seats that clients had may be gone, and with them their parts.
 pub fn run_clients<R: Threads + Wait + Sync, G: Gate + Sync>(
     rt: &R,
     alloc: Global,

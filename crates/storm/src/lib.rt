@@ -13,6 +13,7 @@ mod top;
 mod whole;
 
 pub use clients::run_clients;
+pub use opening::open_all;
 pub use plan::Plan;
 pub use top::storm_main;
 pub use whole::storm;

@@ -55,8 +55,8 @@ fn open_vb<W: Wait>(rt: &W, alloc: Global, v: u16) -> Result<SeatSlot, AllocErro
     })
 }
 
-/// The four vBuckets, by rising number.
-pub(crate) fn open_all<W: Wait>(rt: &W, alloc: Global) -> Result<Vec<SeatSlot>, AllocError>
+/// The four vBuckets, by rising number, each with a seat that has all parts.
+pub fn open_all<W: Wait>(rt: &W, alloc: Global) -> Result<Vec<SeatSlot>, AllocError>
     ensures { IfOk result (λ slots. AreOpened (rows_of slots.items)) }
 {
     let mut slots = Vec::new(alloc);

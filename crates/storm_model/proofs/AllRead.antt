@@ -69,7 +69,7 @@ module _ (v : ℕ) (ws : List Write) (puts : AllByRecursion IsPut ws) (room : le
       let num : Numbered 0 (length ws) done.held = num_done in
       read_whole (read vb.position.at id done nothing) done.held (length ws) num
       (read_all vb.position.at id done nothing 0 (length ws) false [] (all_spans done.spans)
-      (ap (stream_at id) (all_done.streams ∙ lined.streams) ∙ e) (all_done.floor ∙ lined.floor) refl refl chain_done num
+      (ap (stream_at id) (all_done.streams ∙ lined.streams) ∙ e) refl refl chain_done num
       (λ k. ap (λ cs. finite.get (fold applied nothing cs).docs k) (sym (stretch_past 0 (length ws) 0 0 done.held num (omega arith)))) long_enough) q
       ∙ ap (λ cs. finite.get (fold applied nothing cs).docs q) all_done.held
       ∙ ap (λ (b : Picture). finite.get (fold applied b vb.held).docs q) (sym lined.base)

@@ -30,7 +30,7 @@ use Rattle.vb_calls.specs.State.{Plain, image_in, doc_at, is_active, is_left, pe
 use Rattle.vb_calls.specs.Plain.{plain_step}
 use Rattle.vb_calls.specs.Writes.{store_refusal, store_outcome, growth, write_change, new_cas, written_doc, new_rev, doc_refusal, pending_refusal, lacks_seqnos, or_else}
 use Rattle.vb_calls.specs.Settling.{settled, settled_from, unresolved, Resolving}
-use Rattle.vb_calls.specs.Streams.{open_outcome, open_refusal, judged_open, place_reply, take_from, take_to, stream_at, is_in_memory, end_span}
+use Rattle.vb_calls.specs.Streams.{open_outcome, open_refusal, judged_open, place_from, placed_by, take_from, take_to, stream_at, is_in_memory, end_span}
 use Rattle.vb_calls.specs.Spans.{all_spans}
 use Rattle.vb_calls.specs.Flushing.{flush_from, unflushed_span}
 use Rattle.branch_model.specs.Requests.{rule}
@@ -166,9 +166,14 @@ opened_quiet : (o : Option Status) (vb : Plain) (id : ℕ) (ask : StreamAsk) (sy
 opened_quiet (Some st) vb id ask sync = stays vb _ refl
 opened_quiet None vb id ask sync = judged_quiet (rule vb.log vb.position.at ask) vb id ask sync
 
-placed_silent : (floor : ℕ) (o : Option Stream) → seq_in (place_reply floor o).answer ≡ []
-placed_silent floor None = refl
-placed_silent floor (Some s) = refl
+placed_by_quiet : (c m : Bool) (s : Stream) (vb : Plain) → Quiet vb (placed_by c m s vb)
+placed_by_quiet true m s vb = stays vb _ refl
+placed_by_quiet false true s vb = record { same = record { role = refl; waiting = refl; position = refl; image = refl }; silent = refl }
+placed_by_quiet false false s vb = stays vb _ refl
+
+placed_quiet : (o : Option Stream) (vb : Plain) → Quiet vb (place_from o vb)
+placed_quiet None vb = stays vb _ refl
+placed_quiet (Some s) vb = placed_by_quiet s.cursor (is_in_memory vb s.place) s vb
 
 taken_to_quiet : (o : Option Span) (s : Stream) (vb : Plain) → Quiet vb (take_to o s vb)
 taken_to_quiet None s vb = stays vb _ refl
@@ -176,7 +181,7 @@ taken_to_quiet (Some w) s vb = record { same = record { role = refl; waiting = r
 
 taken_quiet : (o : Option Stream) (vb : Plain) → Quiet vb (take_from o vb)
 taken_quiet None vb = stays vb _ refl
-taken_quiet (Some s) vb = taken_to_quiet (if is_in_memory vb.floor s then end_span s (all_spans vb.spans) vb.held else None) s vb
+taken_quiet (Some s) vb = taken_to_quiet (if s.cursor then end_span s (all_spans vb.spans) vb.held else None) s vb
 
 flushed_quiet : (o : Option Span) (vb : Plain) → Quiet vb (flush_from o vb)
 flushed_quiet None vb = stays vb _ refl
@@ -211,7 +216,7 @@ pub call_made : (c : VbCall) (vb : Plain) (ws : List Write) → is_storm_call c 
 call_made (call.Store w clock) vb ws is puts calm l = store_made vb ws w clock puts.0 calm l
 call_made (call.Get key) vb ws is puts calm l = quiet_made (call.Get key) vb ws refl (stays vb _ (got vb (is_left vb.waiting (pending_of vb key)) (is_active vb.role) (doc_at vb key))) calm
 call_made (call.OpenStream id ask sync) vb ws is puts calm l = quiet_made (call.OpenStream id ask sync) vb ws refl (opened_quiet (open_refusal vb id ask) vb id ask sync) calm
-call_made (call.Place id) vb ws is puts calm l = quiet_made (call.Place id) vb ws refl (stays vb _ (placed_silent vb.floor (stream_at id vb.streams))) calm
+call_made (call.Place id) vb ws is puts calm l = quiet_made (call.Place id) vb ws refl (placed_quiet (stream_at id vb.streams) vb) calm
 call_made (call.Take id) vb ws is puts calm l = quiet_made (call.Take id) vb ws refl (taken_quiet (stream_at id vb.streams) vb) calm
 call_made (call.CloseStream id) vb ws is puts calm l = quiet_made (call.CloseStream id) vb ws refl (record { same = record { role = refl; waiting = refl; position = refl; image = refl }; silent = refl }) calm
 call_made call.FlushTake vb ws is puts calm l = quiet_made call.FlushTake vb ws refl (flushed_quiet (unflushed_span vb) vb) calm
@@ -236,6 +241,8 @@ call_made call.Pend vb ws is puts calm l = no is
 call_made call.Own vb ws is puts calm l = no is
 call_made (call.Yield id) vb ws is puts calm l = no is
 call_made call.Seal vb ws is puts calm l = no is
+call_made call.Trim vb ws is puts calm l = no is
+call_made (call.DropCursor id) vb ws is puts calm l = no is
 
 -- ---- histories
 

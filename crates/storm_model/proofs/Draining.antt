@@ -29,7 +29,6 @@ pub record Drained (d vb : Plain) (n : ℕ) : Type 0 where
   pub saved : d.saved ≡ n
   pub held : d.held ≡ vb.held
   pub spans : d.spans ≡ vb.spans
-  pub floor : d.floor ≡ vb.floor
   pub streams : d.streams ≡ vb.streams
   pub position : d.position ≡ vb.position
 
@@ -65,7 +64,7 @@ chain_front from f (x ∷ front) w h a l o = (h.0, h.1, h.2, chain_front x.last 
 
 pub drained : (k : ℕ) (vb : Plain) (f n : ℕ) (front rest : List Span) → all_spans vb.spans ≡ front ++ rest → Chain 0 f front → Chain f n rest
     → vb.waiting ≡ [] → vb.flushed ≡ f → vb.saved ≡ f → length rest ≤ k → Drained (flushed k vb) vb n
-drained zero vb f n front [] s h r none e d l = record { saved = d ∙ r; held = refl; spans = refl; floor = refl; streams = refl; position = refl }
+drained zero vb f n front [] s h r none e d l = record { saved = d ∙ r; held = refl; spans = refl; streams = refl; position = refl }
 drained zero vb f n front (w ∷ rest) s h r none e d l = absurd (omega arith)
 drained (suc k) vb f n front [] s h r none e d l =
     subst (λ (x : Plain). Drained (flushed k x) vb n) (sym (nothing_is vb (find_none f vb front s h e))) (drained k vb f n front [] s h r none e d (omega arith))
@@ -74,4 +73,4 @@ drained (suc k) vb f n front (w ∷ rest) s h r none e d l =
     let higher : max vb.saved w.last ≡ w.last = let low = r.1 in omega (arith, d, low) in
     let more : Drained (flushed k now) now n = drained k now w.last n (front ++ w ∷ []) rest (s ∙ sym (append_assoc front (w ∷ []) rest)) (chain_front 0 f front w h r.0 r.1 r.2) r.3 none refl higher (omega arith) in
     subst (λ (x : Plain). Drained (flushed k x) vb n) (sym (taken_is vb w (find_next f vb front w rest s h e r.1) r.2 none))
-    (record { saved = more.saved; held = more.held; spans = more.spans; floor = more.floor; streams = more.streams; position = more.position })
+    (record { saved = more.saved; held = more.held; spans = more.spans; streams = more.streams; position = more.position })

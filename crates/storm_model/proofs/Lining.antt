@@ -39,16 +39,15 @@ abbrev pub Chain : ℕ → ℕ → List Span → Type 0
 Chain from to [] = from ≡ to
 Chain from to (w ∷ ws) = (w.above ≡ from) × (from < w.last) × (w.origin ≡ Own) × Chain w.last to ws
 
--- a reader's stream, up to which place it was fed, and whether it was
+-- a reader's stream, with a cursor, up to which place it was fed, and whether it was
 abbrev pub reader : ℕ → ℕ → Bool → Stream
-reader id place taken = record { id = id; ask = from_start; sync = false; place = place; taken = taken }
+reader id place taken = record { id = id; ask = from_start; sync = false; place = place; cursor = true; taken = taken }
 
 -- a vBucket with its readers' streams, at which so many writes were made, and nothing else
 pub record Lined (vb : Plain) (n : ℕ) : Type 0 where
   pub base : vb.base ≡ nothing
   pub held : Numbered 0 n vb.held
   pub chain : Chain 0 n (all_spans vb.spans)
-  pub floor : vb.floor ≡ 0
   pub saved : vb.saved ≡ 0
   pub flushed : vb.flushed ≡ 0
   pub streams : vb.streams ≡ reader 1 0 false ∷ reader 2 0 false ∷ []
@@ -103,7 +102,6 @@ grown_lined vb ws k v cas calm l =
       held = numbered_more 0 (length ws) vb.held c l.held e (written_doc (set_of k v) cas (new_rev (doc_at vb k)), refl);
       chain = subst (λ (n : ℕ). Chain 0 (length ws + 1) (all_spans (with_change vb.spans (own_joined vb.held vb.spans.current (last_at vb.held c.key) c) (span_of n Own c)))) (sym calm.high)
           (chain_grown vb.spans (length ws) c (own_joined vb.held vb.spans.current (last_at vb.held c.key) c) (joins vb.held vb.spans.current (last_at vb.held c.key) c) l.chain e);
-      floor = l.floor;
       saved = l.saved;
       flushed = l.flushed;
       streams = l.streams;
@@ -124,7 +122,7 @@ stored_lined (w ∷ ws) done vb puts calm l room =
     subst (λ xs. Lined (fold stored (stored vb w) ws) (length xs)) (append_assoc done (w ∷ []) ws) (stored_lined ws (done ++ w ∷ []) (stored vb w) puts.1 here lined (omega arith))
 
 opened_lined : (v : ℕ) → Lined (opened (storm_new v)) 0
-opened_lined v = record { base = refl; held = refl; chain = refl; floor = refl; saved = refl; flushed = refl; streams = refl }
+opened_lined v = record { base = refl; held = refl; chain = refl; saved = refl; flushed = refl; streams = refl }
 
 pub storm_lined : (v : ℕ) (ws : List Write) → AllByRecursion IsPut ws → length ws ≤ MAX_SEQ → Lined (storm_vb v ws) (length ws)
 storm_lined v ws puts room = stored_lined ws [] (opened (storm_new v)) puts (opened_calm v) (opened_lined v) (omega arith)

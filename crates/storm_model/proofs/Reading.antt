@@ -1,6 +1,6 @@
 -- a reader takes all, and its image has the documents
 use Rattle.std.proofs.Common.{◌≡◌, ℕ, zero, suc, ◌<◌, ◌≤◌, ◌==◌, ◌&&◌, ◌||◌, not, Bool, true, false, cond, is_some, List, [], ◌∷◌, ◌++◌, map, length, refl, ap, sym, ◌∙◌, subst, append_assoc, append-nil, arith}
-use Rattle.std.specs.Prelude.{Option, Some, None, nat_le, nat_lt, if◌then◌else◌, unwrap_or}
+use Rattle.std.specs.Prelude.{Option, Some, None, nat_le, nat_lt, if◌then◌else◌, option_map}
 use Rattle.std.specs.List.{AllByRecursion, filter, find, flat_map, fold, list_any}
 use Rattle.std.specs.Option.{option_or}
 use Rattle.std.specs.FinMap as finite
@@ -25,6 +25,7 @@ use Rattle.vb_calls.specs.State.{Plain}
 use Rattle.vb_calls.specs.Plain.{plain_step}
 use Rattle.vb_calls.specs.Spans.{all_spans, is_whole, key_lasts, live_in, live_of, starts_below, stretch}
 use Rattle.vb_calls.specs.Streams.{end_span, has_any, is_seen, items_to, may_end, moved_on, need_of, sent_as, span_items, stream_at, take_from, take_to}
+use Rattle.vb_calls.proofs.Placing.{changed_at, moved_id}
 use Rattle.storm_model.specs.Sums.{read, taken_in}
 use Rattle.storm_model.proofs.Draining.{below, chain_front, not_below}
 use Rattle.storm_model.proofs.Lining.{Chain, IsSet, Numbered, chain_rises, reader}
@@ -290,23 +291,7 @@ ends_none id p t front h a = front_ends id p t (front ++ []) h 0 front [] a
 -- ---- a take
 
 found_moved : (id end : ℕ) (ss : List Stream) (s : Stream) → stream_at id ss ≡ Some s → stream_at id (map (moved_on id end) ss) ≡ Some (moved_on id end s)
-found_moved id end [] s e = absurd (cc e)
-found_moved id end (x ∷ ss) s e = by (x.id == id) refl e (found_moved id end ss s)
-  where
-    same_id : (b : Bool) → (if b then record { id = x.id; ask = x.ask; sync = x.sync; place = end; taken = true } else x).id ≡ x.id
-    same_id true = refl
-    same_id false = refl
-
-    head : (o p : Stream) → Some o ≡ Some p → o ≡ p
-    head o p k = ap (λ m. unwrap_or m o) k
-
-    by : (b : Bool) → (x.id == id) ≡ b → cond b (Some x) (stream_at id ss) ≡ Some s → (stream_at id ss ≡ Some s → stream_at id (map (moved_on id end) ss) ≡ Some (moved_on id end s))
-        → stream_at id (map (moved_on id end) (x ∷ ss)) ≡ Some (moved_on id end s)
-    by true h k more =
-        ap (λ t. cond t (Some (moved_on id end x)) (stream_at id (map (moved_on id end) ss))) (ap (λ (m : ℕ). m == id) (same_id (x.id == id)) ∙ h)
-        ∙ ap (λ o. Some (moved_on id end o)) (head x s k)
-    by false h k more =
-        ap (λ t. cond t (Some (moved_on id end x)) (stream_at id (map (moved_on id end) ss))) (ap (λ (m : ℕ). m == id) (same_id (x.id == id)) ∙ h) ∙ more k
+found_moved id end ss s e = changed_at (moved_on id end) (moved_id id end) id ss ∙ ap (option_map (moved_on id end)) e
 
 same_number : (id : ℕ) (t : Bool) → (id == id) ≡ t → t ≡ true
 same_number id true e = refl
@@ -327,22 +312,20 @@ read_more image h p n high num l r q =
     ∙ ap (λ (x : Picture). finite.get x.docs q) (sym (fold-append applied nothing (stretch 0 p h) (stretch p high h)))
     ∙ ap (λ cs. finite.get (fold applied nothing cs).docs q) (sym (stretch_split 0 n p high h num l))
 
-take_is : (id : ℕ) (vb : Plain) (s : Stream) → stream_at id vb.streams ≡ Some s → vb.floor ≡ 0 → plain_step vb (call.Take id) ≡ take_to (end_span s (all_spans vb.spans) vb.held) s vb
-take_is id vb s e z =
-    ap (λ o. take_from o vb) e
-    ∙ ap (λ t. take_to (if t then end_span s (all_spans vb.spans) vb.held else None) s vb) (ap (λ (k : ℕ). nat_le k s.place) z ∙ le_is 0 s.place (omega arith))
+take_is : (id p : ℕ) (t : Bool) (vb : Plain) → stream_at id vb.streams ≡ Some (reader id p t) → plain_step vb (call.Take id) ≡ take_to (end_span (reader id p t) (all_spans vb.spans) vb.held) (reader id p t) vb
+take_is id p t vb e = ap (λ o. take_from o vb) e
 
-pub read_all : (k id : ℕ) (vb : Plain) (image : Picture) (p n : ℕ) (t : Bool) (front rest : List Span) → stream_at id vb.streams ≡ Some (reader id p t) → vb.floor ≡ 0
+pub read_all : (k id : ℕ) (vb : Plain) (image : Picture) (p n : ℕ) (t : Bool) (front rest : List Span) → stream_at id vb.streams ≡ Some (reader id p t)
     → all_spans vb.spans ≡ front ++ rest → Chain 0 p front → Chain p n rest → Numbered 0 n vb.held → ReadTo image vb.held p → length rest ≤ k → ReadTo (read k id vb image) vb.held n
-read_all zero id vb image p n t front [] e z s a b num r l = subst (ReadTo image vb.held) b r
-read_all zero id vb image p n t front (w ∷ rest) e z s a b num r l = absurd (omega arith)
-read_all (suc k) id vb image p n t front [] e z s a b num r l =
+read_all zero id vb image p n t front [] e s a b num r l = subst (ReadTo image vb.held) b r
+read_all zero id vb image p n t front (w ∷ rest) e s a b num r l = absurd (omega arith)
+read_all (suc k) id vb image p n t front [] e s a b num r l =
     let is : plain_step vb (call.Take id) ≡ take_to None (reader id p t) vb =
-    take_is id vb (reader id p t) e z ∙ ap (λ o. take_to o (reader id p t) vb) (ap (λ ws. end_span (reader id p t) ws vb.held) s ∙ ends_none id p t front vb.held a) in
-    subst (λ took. ReadTo (read k id took.0 (taken_in took.1.answer image)) vb.held n) (sym is) (read_all k id vb image p n t front [] e z s a b num r (omega arith))
-read_all (suc k) id vb image p n t front (w ∷ rest) e z s a b num r l =
+    take_is id p t vb e ∙ ap (λ o. take_to o (reader id p t) vb) (ap (λ ws. end_span (reader id p t) ws vb.held) s ∙ ends_none id p t front vb.held a) in
+    subst (λ took. ReadTo (read k id took.0 (taken_in took.1.answer image)) vb.held n) (sym is) (read_all k id vb image p n t front [] e s a b num r (omega arith))
+read_all (suc k) id vb image p n t front (w ∷ rest) e s a b num r l =
     let next : end_span (reader id p t) (all_spans vb.spans) vb.held ≡ Some w = ap (λ ws. end_span (reader id p t) ws vb.held) s ∙ ends_next id p n t front w rest vb.held num a b in
-    let is : plain_step vb (call.Take id) ≡ take_to (Some w) (reader id p t) vb = take_is id vb (reader id p t) e z ∙ ap (λ o. take_to o (reader id p t) vb) next in
+    let is : plain_step vb (call.Take id) ≡ take_to (Some w) (reader id p t) vb = take_is id p t vb e ∙ ap (λ o. take_to o (reader id p t) vb) next in
     let now : Plain = record vb { streams = map (moved_on id w.last) vb.streams } in
     let items : items_to (reader id p t) (all_spans vb.spans) vb.held w.last ≡ key_lasts (stretch p w.last vb.held) = ap (λ ws. items_to (reader id p t) ws vb.held w.last) s ∙ items_are id p n t front w rest vb.held num a b in
     let low : p ≤ w.last = let m = b.1 in omega (arith, m) in
@@ -350,7 +333,7 @@ read_all (suc k) id vb image p n t front (w ∷ rest) e z s a b num r l =
     subst (λ cs. ReadTo (fold applied image cs) vb.held w.last) (sym items) (read_more image vb.held p n w.last num low r) in
     subst (λ took. ReadTo (read k id took.0 (taken_in took.1.answer image)) vb.held n) (sym is)
     (read_all k id now (fold applied image (items_to (reader id p t) (all_spans vb.spans) vb.held w.last)) w.last n true (front ++ w ∷ []) rest
-    (found_moved id w.last vb.streams (reader id p t) e ∙ ap Some (moved_reader id p w.last t)) z (s ∙ sym (append_assoc front (w ∷ []) rest)) (chain_front 0 p front w a b.0 b.1 b.2) b.3 num more (omega arith))
+    (found_moved id w.last vb.streams (reader id p t) e ∙ ap Some (moved_reader id p w.last t)) (s ∙ sym (append_assoc front (w ∷ []) rest)) (chain_front 0 p front w a b.0 b.1 b.2) b.3 num more (omega arith))
 
 pub read_whole : (image : Picture) (h : List Change) (n : ℕ) → Numbered 0 n h → ReadTo image h n → (q : List ℕ) → finite.get image.docs q ≡ finite.get (fold applied nothing h).docs q
 read_whole image h n num r q = r q ∙ ap (λ cs. finite.get (fold applied nothing cs).docs q) (stretch_all 0 n h num n (omega arith))

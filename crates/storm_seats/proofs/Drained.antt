@@ -10,7 +10,8 @@ use Rattle.vb_calls.specs.declared.stream.Stream.{Stream}
 use Rattle.vb_calls.specs.Flushing.{flush_from, unflushed_span}
 use Rattle.vb_calls.specs.Plain.{Plain, plain_step}
 use Rattle.vb_calls.specs.Spans.{all_spans}
-use Rattle.vb_calls.specs.Streams.{end_span, is_in_memory, moved_on, stream_at, take_from, take_to}
+use Rattle.vb_calls.specs.Streams.{end_span, moved_on, stream_at, take_from, take_to}
+use Rattle.vb_calls.proofs.Placing.{changed_at, found_id, moved_id}
 use Rattle.storm_model.specs.Sums.{flushed, read, taken_in, written_down}
 use Rattle.storm_seats.specs.Draining.{IsStill, ReadBy, flushed_once, has_rows, is_taken, read_once, took}
 
@@ -25,7 +26,7 @@ still_to (Some w) s vb e = no e
 
 still_from : (o : Option Stream) (vb : Plain) → is_taken (take_from o vb).1.answer ≡ false → ((take_from o vb).0 ≡ vb) × ((image : Picture) → taken_in (take_from o vb).1.answer image ≡ image)
 still_from None vb e = (refl, λ image. refl)
-still_from (Some s) vb e = still_to (if is_in_memory vb.floor s then end_span s (all_spans vb.spans) vb.held else None) s vb e
+still_from (Some s) vb e = still_to (if s.cursor then end_span s (all_spans vb.spans) vb.held else None) s vb e
 
 -- a take that gives nothing changes nothing
 pub still : (id : ℕ) (vb : Plain) → is_taken (plain_step vb (call.Take id)).1.answer ≡ false → IsStill id vb
@@ -50,33 +51,12 @@ flushed_dry (suc k) vb e = ap (flushed k) e ∙ flushed_dry k vb e
 
 -- ---- what a reader leaves to the other
 
-found_id : (id : ℕ) (ss : List Stream) (s : Stream) → stream_at id ss ≡ Some s → s.id ≡ id
-found_id id [] s e = absurd (cc e)
-found_id id (x ∷ xs) s e = by (x.id == id) refl e (found_id id xs s)
-  where
-    by : (b : Bool) → (x.id == id) ≡ b → cond b (Some x) (stream_at id xs) ≡ Some s → (stream_at id xs ≡ Some s → s.id ≡ id) → s.id ≡ id
-    by true t f more = let same : x ≡ s = cc f in ap (λ (y : Stream). y.id) (sym same) ∙ eqb-true x.id id t
-    by false t f more = more f
-
--- a stream that moves on keeps its number
-moved_id : (i e : ℕ) (s : Stream) → (moved_on i e s).id ≡ s.id
-moved_id i e s = by (s.id == i)
-  where
-    by : (b : Bool) → Stream.id (if b then record { id = s.id; ask = s.ask; sync = s.sync; place = e; taken = true } else s) ≡ s.id
-    by true = refl
-    by false = refl
-
 -- the stream of a number, once one moved on
 moved_at : (id i e : ℕ) (ss : List Stream) → stream_at id (map (moved_on i e) ss) ≡ option_map (moved_on i e) (stream_at id ss)
-moved_at id i e [] = refl
-moved_at id i e (s ∷ ss) = ap (λ n. cond (n == id) (Some (moved_on i e s)) (stream_at id (map (moved_on i e) ss))) (moved_id i e s) ∙ by (s.id == id) (moved_at id i e ss)
-  where
-    by : (b : Bool) → stream_at id (map (moved_on i e) ss) ≡ option_map (moved_on i e) (stream_at id ss) → cond b (Some (moved_on i e s)) (stream_at id (map (moved_on i e) ss)) ≡ option_map (moved_on i e) (cond b (Some s) (stream_at id ss))
-    by true more = refl
-    by false more = more
+moved_at id i e ss = changed_at (moved_on i e) (moved_id i e) id ss
 
 not_moved : (i e : ℕ) (s : Stream) → s.id ≢ i → moved_on i e s ≡ s
-not_moved i e s ne = ap (λ b. if b then record { id = s.id; ask = s.ask; sync = s.sync; place = e; taken = true } else s) (false_from_ne_true (s.id == i) (λ t. ne (eqb-true s.id i t)))
+not_moved i e s ne = ap (λ b. if b then record { id = s.id; ask = s.ask; sync = s.sync; place = e; cursor = s.cursor; taken = true } else s) (false_from_ne_true (s.id == i) (λ t. ne (eqb-true s.id i t)))
 
 -- another stream stands where it stood
 other_at : (id i e : ℕ) (ss : List Stream) → id ≢ i → stream_at id (map (moved_on i e) ss) ≡ stream_at id ss
@@ -92,7 +72,7 @@ read_to (Some w) id s vb e = record { rest = refl; others = λ other ne. other_a
 
 read_from : (o : Option Stream) (id : ℕ) (vb : Plain) → stream_at id vb.streams ≡ o → ReadBy id vb (take_from o vb).0
 read_from None id vb at = record { rest = refl; others = λ other ne. refl }
-read_from (Some s) id vb at = read_to (if is_in_memory vb.floor s then end_span s (all_spans vb.spans) vb.held else None) id s vb (found_id id vb.streams s at)
+read_from (Some s) id vb at = read_to (if s.cursor then end_span s (all_spans vb.spans) vb.held else None) id s vb (found_id id vb.streams s at)
 
 pub read_none : (id : ℕ) (vb : Plain) → ReadBy id vb vb
 read_none id vb = record { rest = refl; others = λ other ne. refl }
@@ -126,7 +106,7 @@ module _ (id : ℕ) where
   same_from : (k : ℕ) → Same k → (a : Plain) (ss : List Stream) (image : Picture) → stream_at id ss ≡ stream_at id a.streams → (o : Option Stream)
       → read k id (take_from o (moved a ss)).0 (taken_in (take_from o (moved a ss)).1.answer image) ≡ read k id (take_from o a).0 (taken_in (take_from o a).1.answer image)
   same_from k more a ss image e None = more a ss image e
-  same_from k more a ss image e (Some s) = same_to k more a ss image e s (if is_in_memory a.floor s then end_span s (all_spans a.spans) a.held else None)
+  same_from k more a ss image e (Some s) = same_to k more a ss image e s (if s.cursor then end_span s (all_spans a.spans) a.held else None)
 
   same_read : (k : ℕ) → Same k
   same_read zero a ss image e = refl

@@ -1,12 +1,13 @@
 //! Storms, small ones and one that a body on one thread never ends in time.
-use dcp_io::{MemSink, Status};
-use node_threads::Open;
+use dcp_io::{MemSink, Status, Writing};
+use node_threads::{Open, SeatSlot};
+use std::sync::Arc;
 use std::sync::atomic::AtomicU64;
 use std::sync::atomic::Ordering::SeqCst;
 use std::test::Fail;
 use std::thread;
-use storm::{Plan, storm, storm_main};
-use vb_turn::Gate;
+use storm::{Plan, open_all, run_clients, storm, storm_main};
+use vb_turn::{ALL_PARTS, Gate};
 
 /// What `storm 0 1 1` writes.
 const ONE_WRITE: &str =
@@ -23,6 +24,22 @@ fn one_write_is_told(rt: HostRuntime) -> Result<(), Fail> {
 }
 
 #[test]
+fn a_sink_that_fails_has_a_front_part(rt: HostRuntime) -> Result<(), Fail> {
+    let plan = Plan::new(0, 1, 1).ok_or("plan")?;
+    let mut room = [0u8; 100];
+    let mut sink = Writing::new(room.as_mut_slice());
+    let status = storm_main(&rt, rt.alloc(), &plan, &mut sink);
+    drop(sink);
+    assert!(rt; matches!(status, Status::WriteFault));
+    assert!(rt; ONE_WRITE.as_bytes().starts_with(room.as_slice()));
+    let mut sink = MemSink::new(rt.alloc(), &[1])?;
+    let status = storm_main(&rt, rt.alloc(), &plan, &mut sink);
+    assert!(rt; matches!(status, Status::WriteFault));
+    assert!(rt; sink.bytes().is_empty());
+    Ok(())
+}
+
+#[test]
 fn clients_on_threads_write_all(rt: HostRuntime) -> Result<(), Fail> {
     let plan = Plan::new(7, 4, 10_000).ok_or("plan")?;
     let lines = storm(&rt, rt.alloc(), &Open, &plan)?;
@@ -35,6 +52,31 @@ fn clients_on_threads_write_all(rt: HostRuntime) -> Result<(), Fail> {
     }
     assert_eq!(rt; lines.len(), 4);
     assert_eq!(rt; highs, 40_000);
+    Ok(())
+}
+
+/// The last seqno of the vBucket of this seat, which has to have all parts, and no other beside it.
+fn closed_high(slot: SeatSlot) -> Result<u64, Fail> {
+    let SeatSlot { turn, seat, .. } = slot;
+    if seat.parts() != ALL_PARTS {
+        return Err("a part that is missing".into());
+    }
+    let turn = Arc::try_unwrap(turn).ok().ok_or("a turn that is held")?;
+    let vb = turn.close(seat).ok_or("a seat that closes nothing")?;
+    Ok(vb.high())
+}
+
+#[test]
+fn seats_come_back_with_all_parts(rt: HostRuntime) -> Result<(), Fail> {
+    let plan = Plan::new(7, 4, 100).ok_or("plan")?;
+    let mut slots = open_all(&rt, rt.alloc())?;
+    run_clients(&rt, rt.alloc(), &Open, &plan, &mut slots)?;
+    let mut highs = [0u64; 4];
+    for slot in slots {
+        let v = usize::from(slot.number % 4);
+        highs[v] = closed_high(slot)?;
+    }
+    assert_eq!(rt; highs, [112, 100, 84, 104]);
     Ok(())
 }
 

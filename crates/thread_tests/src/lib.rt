@@ -8,3 +8,5 @@ mod dealt;
 mod nodes;
 #[cfg(test)]
 mod seats;
+#[cfg(test)]
+mod tour;

@@ -5,7 +5,7 @@
 mod numbers;
 #[cfg(test)]
 mod tests;
+#[cfg(test)]
 mod workers;
 
 pub use numbers::{Call, Numbers, NumbersSeat, NumbersTurn, Reply};
-pub use workers::{put_all, put_by_two};

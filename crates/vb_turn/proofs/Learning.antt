@@ -5,7 +5,7 @@ use mathlib.Core.List.{IsPrefix}
 use Rattle.vb_turn.specs.declared.view.View.{View}
 use Rattle.vb_turn.specs.History.{after, top}
 use Rattle.vb_turn.specs.Turning.{all_parts, times, places, Whole, longer}
-use Rattle.vb_turn.specs.Seats.{Called, Told, Gathered, ClosesWith}
+use Rattle.vb_turn.specs.Seats.{Called, Published, Gathered, ClosesWith}
 use Rattle.vb_turn.specs.Laws.{behind, EachAnswers, AreOwn, FromOpening, TurnsAreLegal, Moves, Leads, NumbersHold, SeatsSplitAndJoin, ClosingsNameTheHistory}
 use Rattle.vb_turn.proofs.Fronts.{prefix_self, prefix_trans, prefix_get, get_last}
 use Rattle.vb_turn.proofs.Totals.{places_append}
@@ -34,7 +34,7 @@ module _ {M P C R : Type 0} (stands : M → P → Type 0) (next : P → C → P 
   Call v e w = Called stands next number v e w
 
   abbrev Number : W → ℕ → W → Type 0
-  Number v n w = Told stands next number v n w
+  Number v n w = Published stands next number v n w
 
   seen_is : (v w : W) (e : C × R) (c : Call v e w) → w.seen ≡ c.base ++ e ∷ []
   seen_is v w e c = ap (λ (x : W). x.seen) c.new

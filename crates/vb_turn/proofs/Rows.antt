@@ -5,7 +5,7 @@ use Rattle.std.proofs.lemmas.Bool.Decides.{nat_tests}
 use Rattle.vb_turn.specs.declared.view.View.{View}
 use Rattle.vb_turn.specs.History.{Legal, top}
 use Rattle.vb_turn.specs.Turning.{all_parts, times, once_below}
-use Rattle.vb_turn.specs.Seats.{called, Called, Told, ClosesWith}
+use Rattle.vb_turn.specs.Seats.{called, Called, Published, ClosesWith}
 use Rattle.vb_turn.specs.Rows.{put, shown, IsAt, has_put}
 use Rattle.vb_turn.proofs.Fronts.{placed_one, placed_both}
 use Rattle.vb_turn.proofs.Totals.{once_once}
@@ -91,7 +91,7 @@ wrong_number w c = let h : 6 ≤ 5 = (second 6 (2, 5) w c).1 in omega arith
 pub wrong_nothing : (parts known : ℕ) (e : ℕ × ℕ) → Called IsAt put shown (has_put parts known) e (has_put parts known) → ⊥
 wrong_nothing parts known e c = let long = long_is IsAt put shown (has_put parts known) (has_put parts known) e c in let front = prefix_long ((5, 0) ∷ []) c.base c.front in omega arith
 
-pub right_number : Told IsAt put shown (has_put all_parts 0) 5 (has_put all_parts 5)
+pub right_number : Published IsAt put shown (has_put all_parts 0) 5 (has_put all_parts 5)
 right_number = (
   refl,
   omega arith,
@@ -104,13 +104,13 @@ right_number = (
   ),
 )
 
-pub wrong_less : (parts known : ℕ) (w : View ℕ (ℕ × ℕ)) → Told IsAt put shown (has_put parts known) 4 w → ⊥
+pub wrong_less : (parts known : ℕ) (w : View ℕ (ℕ × ℕ)) → Published IsAt put shown (has_put parts known) 4 w → ⊥
 wrong_less parts known w t = let h : 5 ≤ 4 = t.2 0 refl 0 refl in omega arith
 
-pub wrong_back : (parts : ℕ) (w : View ℕ (ℕ × ℕ)) → Told IsAt put shown (has_put parts 9) 5 w → ⊥
+pub wrong_back : (parts : ℕ) (w : View ℕ (ℕ × ℕ)) → Published IsAt put shown (has_put parts 9) 5 w → ⊥
 wrong_back parts w t = let h = t.1 in omega arith
 
-pub wrong_made_up : (known : ℕ) (w : View ℕ (ℕ × ℕ)) → Told IsAt put shown (has_put all_parts known) 6 w → ⊥
+pub wrong_made_up : (known : ℕ) (w : View ℕ (ℕ × ℕ)) → Published IsAt put shown (has_put all_parts known) 6 w → ⊥
 wrong_made_up known w t = let h : ◌≡◌ {A = ℕ} 5 6 = (numbers_hold IsAt put shown).alone (has_put all_parts known) w 6 t refl 0 refl 0 refl in omega arith
 
 pub right_close : ClosesWith IsAt put (has_put all_parts 0) 5

@@ -8,7 +8,7 @@ use Rattle.atomic_table.specs.Table.{Me, rest, step, Final, Seen}
 use Rattle.vb_turn.specs.declared.view.View.{View}
 use Rattle.vb_turn.specs.History.{after, top, Sound, Ends}
 use Rattle.vb_turn.specs.Turning.{Placed, Apart, Whole, Orderly, Took, loaded, holding, added, without_turn, knowing, both, all_parts, Turning}
-use Rattle.vb_turn.specs.Seats.{Holds, MadeAt, Stepped, Joined, Called, Told, Gathered, ClosesWith}
+use Rattle.vb_turn.specs.Seats.{Holds, MadeAt, Stepped, Joined, Finished, Called, Published, Gathered, ClosesWith}
 use Rattle.vb_turn.proofs.Keeps.{closes}
 use Rattle.vb_turn.proofs.Owning.{seen_whole}
 use Rattle.vb_turn.proofs.Histories.{after_snoc, legal_snoc, top_snoc, top_prefix, sound_grows}
@@ -73,14 +73,18 @@ module _ {M P C R : Type 0} (stands : M → P → Type 0) (next : P → C → P 
   joined_by m m' m'' call noted reply k say (same, object, made) now orderly =
       (ap (λ z. z.0) now ∙ (λ i. added (same i) (say i, reply)), orderly, (k, made))
 
-  pub called_by : (m m' m'' last : Sat) (e : C × R) → Took (Sound stands next number) (Ends stands next) m m' → Joined stands next number m'.0 e m''.0 → last ≡ (without_turn m''.0, []) → Called stands next number m.0 e last.0
-  called_by m m' m'' last e (log, n, y, now, front, known, (o, is, good, ends)) (adds, orderly, (k, made)) given =
-      let gone : last.0 ≡ without_turn m''.0 = ap (λ z. z.0) given in
+  pub finished_by : (m m' m'' : Sat) (e : C × R) → Joined stands next number m.0 e m'.0 → m'' ≡ (without_turn m'.0, []) → Finished stands next number m.0 e m''
+  finished_by m m' m'' e (adds, orderly, made) given =
+      (given ∙ (λ i. (without_turn (adds i), [])), subst (λ (z : W). Orderly z z.seen) adds orderly, made)
+
+  pub called_by : (m m' last : Sat) (e : C × R) → Took (Sound stands next number) (Ends stands next) m m' → Finished stands next number m'.0 e last → Called stands next number m.0 e last.0
+  called_by m m' last e (log, n, y, now, front, known, (o, is, good, ends)) (given, orderly, (k, made)) =
+      let gone : last.0 ≡ without_turn (added m'.0 e) = ap (λ z. z.0) given in
       let view : m'.0 ≡ holding m.0 log = ap (λ z. z.0) now in
       let made' = subst (λ (z : W). MadeAt stands next number z e k) view made in record {
         base = log;
         front = front;
-        new = gone ∙ ap without_turn (adds ∙ ap (λ (z : W). added z e) view);
+        new = gone ∙ ap (λ (z : W). without_turn (added z e)) view;
         legal = λ o' is' s st. let one : o ≡ o' = cc (is, is') in let st' = subst (λ (z : M). stands z s) (sym one) st in let g = good s st' in let d = made' o is s st' in
             let t = top_snoc next number s log e in let a : ℕ = top next number s log in let b : ℕ = number (next (after next s log) e.0).0 in let c : ℕ = top next number s (log ++ e ∷ []) in
             let t' : c ≡ max a b = t in let g' : a ≡ n = g.1 in let goal : m.0.known ≤ c = omega arith in
@@ -88,7 +92,7 @@ module _ {M P C R : Type 0} (stands : M → P → Type 0) (next : P → C → P 
         orderly = subst (λ (z : W). Orderly z z.seen) (sym gone) orderly;
       }
 
-  pub told_by : (m m' : Sat) (r : ℕ) → loaded (Sound stands next number) (Ends stands next) (step 0 0 0 0 none) m r m' → Told stands next number m.0 r m'.0
+  pub told_by : (m m' : Sat) (r : ℕ) → loaded (Sound stands next number) (Ends stands next) (step 0 0 0 0 none) m r m' → Published stands next number m.0 r m'.0
   told_by m m' r (now, known, met, some_parts, (log, front, orderly, good)) = (
     ap (λ z. z.0) now,
     known,

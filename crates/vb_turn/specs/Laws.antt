@@ -6,7 +6,7 @@ use lib.ListN.{get_elem?}
 use Rattle.atomic_table.specs.Table.{State}
 use Rattle.vb_turn.specs.History.{after, Legal, top}
 use Rattle.vb_turn.specs.Turning.{all_parts, left, right, Turning}
-use Rattle.vb_turn.specs.Seats.{Called, Told, Gathered, ClosesWith}
+use Rattle.vb_turn.specs.Seats.{Called, Published, Gathered, ClosesWith}
 use Rattle.vb_turn.specs.declared.view.View.{View}
 
 module _ {P C R : Type 0} (next : P → C → P × R) where
@@ -58,7 +58,7 @@ module _ {M P C R : Type 0} (stands : M → P → Type 0) (next : P → C → P 
   -- what a seat may do: make a call, ask for the number, give parts away, or take a seat in
   abbrev pub Moves : View M (C × R) → View M (C × R) → Type 0
   Moves v w = ((e : C × R) × Called stands next number v e w)
-      ⊎ (((n : ℕ) × Told stands next number v n w) ⊎ (((n : ℕ) × (w ≡ left n v)) ⊎ ((u : View M (C × R)) × Gathered v u w)))
+      ⊎ (((n : ℕ) × Published stands next number v n w) ⊎ (((n : ℕ) × (w ≡ left n v)) ⊎ ((u : View M (C × R)) × Gathered v u w)))
 
   -- one after the other
   abbrev pub Leads : View M (C × R) → List (View M (C × R)) → View M (C × R) → Type 0
@@ -68,13 +68,13 @@ module _ {M P C R : Type 0} (stands : M → P → Type 0) (next : P → C → P 
   -- a number that a seat is told is no less than that of any state that it has seen, and some state had it, on the way of a history that is legal and begins with what the seat has seen; with all parts it has seen that state itself.
   -- By its next call the seat has seen a state with that number or more. Whatever it does then, and whatever others call, a rollback too: it is never told less
   pub record NumbersHold : Type 0 where
-    pub high : (v w : View M (C × R)) (n : ℕ) → Told stands next number v n w → FromOpening stands v (λ s. (k : ℕ) → number (behind next s v.seen k) ≤ n)
-    pub alone : (v w : View M (C × R)) (n : ℕ) → Told stands next number v n w → v.parts ≡ all_parts → FromOpening stands v (λ s. top next number s v.seen ≡ n)
-    pub shown : (v w : View M (C × R)) (n : ℕ) → Told stands next number v n w → (log : List (C × R)) × IsPrefix v.seen log
+    pub high : (v w : View M (C × R)) (n : ℕ) → Published stands next number v n w → FromOpening stands v (λ s. (k : ℕ) → number (behind next s v.seen k) ≤ n)
+    pub alone : (v w : View M (C × R)) (n : ℕ) → Published stands next number v n w → v.parts ≡ all_parts → FromOpening stands v (λ s. top next number s v.seen ≡ n)
+    pub shown : (v w : View M (C × R)) (n : ℕ) → Published stands next number v n w → (log : List (C × R)) × IsPrefix v.seen log
         × FromOpening stands v (λ s. EachAnswers next s log × ((k : ℕ) → number (behind next s log k) ≤ n) × ((k : ℕ) × (k ≤ length log) × (n ≡ number (behind next s log k))))
-    pub seen : (v w x : View M (C × R)) (n : ℕ) (e : C × R) → Told stands next number v n w → Called stands next number w e x
+    pub seen : (v w x : View M (C × R)) (n : ℕ) (e : C × R) → Published stands next number v n w → Called stands next number w e x
         → FromOpening stands v (λ s. (k : ℕ) × (k ≤ length x.seen) × (n ≤ number (behind next s x.seen k)))
-    pub again : (v w x y : View M (C × R)) (between : List (View M (C × R))) (n m : ℕ) → Told stands next number v n w → Leads w between x → Told stands next number x m y → n ≤ m
+    pub again : (v w x y : View M (C × R)) (between : List (View M (C × R))) (n m : ℕ) → Published stands next number v n w → Leads w between x → Published stands next number x m y → n ≤ m
 
 module _ {M P C R : Type 0} (stands : M → P → Type 0) (next : P → C → P × R) where
   -- a seat that is cut loses the parts that it gives away and nothing else; the new one has seen as much, and made no call. Of two that are joined the one has seen what the other has, and perhaps more; the calls of both stand at places that differ, and with all parts they are all that is seen

@@ -49,6 +49,10 @@ module _ {M P C R : Type 0} (stands : M → P → Type 0) (next : P → C → P 
   abbrev pub Joined : View M (C × R) → C × R → View M (C × R) → Type 0
   Joined v e w = (w ≡ added v e) × Orderly w w.seen × ((n : ℕ) × MadeAt v e n)
 
+  -- the call stands in the history, and the seat has neither the turn nor the object any more
+  abbrev pub Finished : View M (C × R) → C × R → Me M (View M (C × R)) → Type 0
+  Finished v e m = (m ≡ (without_turn (added v e), [])) × Orderly (added v e) (added v e).seen × ((n : ℕ) × MadeAt v e n)
+
   -- one history, which is legal from the opening object, begins with all that the seat had seen and ends with this call.
   -- The seat's own calls stand in it at their places, which differ, and its greatest number is at least the one that the seat knew
   pub record Called (v : View M (C × R)) (e : C × R) (w : View M (C × R)) : Type 0 where
@@ -59,6 +63,6 @@ module _ {M P C R : Type 0} (stands : M → P → Type 0) (next : P → C → P 
     pub orderly : Orderly w w.seen
 
   -- the number is at least each earlier one, and at least the greatest of what the seat has seen. It is the greatest of a legal history, which begins with what the seat has seen and has its calls at their places; with all parts they are all of it
-  abbrev pub Told : View M (C × R) → ℕ → View M (C × R) → Type 0
-  Told v n w = (w ≡ knowing v n) × (v.known ≤ n) × ((o : M) → v.opening ≡ Some o → (s : P) → stands o s → top next number s v.seen ≤ n)
+  abbrev pub Published : View M (C × R) → ℕ → View M (C × R) → Type 0
+  Published v n w = (w ≡ knowing v n) × (v.known ≤ n) × ((o : M) → v.opening ≡ Some o → (s : P) → stands o s → top next number s v.seen ≤ n)
       × ((log : List (C × R)) × IsPrefix v.seen log × Orderly v log × ((o : M) → v.opening ≡ Some o → (s : P) → stands o s → Legal next s log × (top next number s log ≡ n)))

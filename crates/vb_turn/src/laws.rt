@@ -2,7 +2,7 @@
 ghost use Rattle.std.specs.Prelude.{◌≡◌, ℕ, [], ◌∷◌};
 ghost use Rattle.vb_turn.specs.History.{after, Legal, top, Sound, Ends};
 ghost use Rattle.vb_turn.specs.Turning.{all_parts};
-ghost use Rattle.vb_turn.specs.Seats.{called, Called, Told, ClosesWith};
+ghost use Rattle.vb_turn.specs.Seats.{called, Called, Published, ClosesWith};
 ghost use Rattle.vb_turn.specs.Rows.{put, shown, IsAt, has_put};
 ghost use Rattle.vb_turn.specs.declared.view.View.{View};
 ghost use Rattle.vb_turn.specs.Laws.{HistoriesSayWhatIsLegal, TurnsAreLegal, NumbersHold, SeatsSplitAndJoin, ClosingsNameTheHistory, SeatsShareOneHistory};
@@ -73,10 +73,10 @@ pub fn turns_in_numbers()
 /// With all parts that seat is told 5, and no seat that has seen as much is told less, or less than it
 /// was told before. With all parts it is told no more.
 pub fn numbers_in_numbers()
-    ensures right { Told IsAt put shown (has_put all_parts 0) 5 (has_put all_parts 5) }
-    ensures less { (parts known : ℕ) (w : View ℕ (ℕ × ℕ)) → Told IsAt put shown (has_put parts known) 4 w → ⊥ }
-    ensures back { (parts : ℕ) (w : View ℕ (ℕ × ℕ)) → Told IsAt put shown (has_put parts 9) 5 w → ⊥ }
-    ensures made_up { (known : ℕ) (w : View ℕ (ℕ × ℕ)) → Told IsAt put shown (has_put all_parts known) 6 w → ⊥ }
+    ensures right { Published IsAt put shown (has_put all_parts 0) 5 (has_put all_parts 5) }
+    ensures less { (parts known : ℕ) (w : View ℕ (ℕ × ℕ)) → Published IsAt put shown (has_put parts known) 4 w → ⊥ }
+    ensures back { (parts : ℕ) (w : View ℕ (ℕ × ℕ)) → Published IsAt put shown (has_put parts 9) 5 w → ⊥ }
+    ensures made_up { (known : ℕ) (w : View ℕ (ℕ × ℕ)) → Published IsAt put shown (has_put all_parts known) 6 w → ⊥ }
 {}
 
 /// That seat closes with 5: not with 0, as if its call was lost, and not where a part is missing.

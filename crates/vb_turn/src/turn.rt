@@ -4,7 +4,7 @@ ghost use mathlib.Core.Option.{some};
 ghost use Rattle.vb_turn.specs.Turning.{all_parts, opened, left, right, added, without_turn, Took, Orderly};
 ghost use Rattle.vb_turn.specs.History.{Sound, Ends};
 ghost use Rattle.vb_turn.specs.Words.{IsSeatOf, view};
-ghost use Rattle.vb_turn.specs.Seats.{IsSame, Holds, Stepped, Joined, Called, Told, Gathered, ClosesWith};
+ghost use Rattle.vb_turn.specs.Seats.{IsSame, Holds, Stepped, Joined, Finished, Called, Published, Gathered, ClosesWith};
 
 use crate::machine::Machine;
 use crate::rule::{Claim, Cut, Gather, Load, Publish, Release};
@@ -150,6 +150,20 @@ impl<M: Machine<C, R>, C, R> Turn<M, C, R> {
         Ok(reply)
     }
 
+    /// A call of the seat that has the turn, and then gives it up, whatever came of the call.
+    fn call_and_release(&self, own: &mut Own<M, C, R>, call: C) -> Result<R, AllocError>
+        requires seat { (own.old.table_id ≡ self.now.table.shared.table_id) × Holds M.stands M.next own.old.me }
+        ensures same { IsSame own.old own.new }
+        ensures ok { IfOk result (λ reply. Finished M.stands M.next M.number own.old.me.0 (call, reply) own.new.me) }
+        ensures form { IfOk result (λ reply. M.has_form call reply) }
+        ensures sure { OnErr result (M.may_fail call) }
+        ensures err { OnErr result (own.new.me ≡ (without_turn own.old.me.0, [])) }
+    {
+        let reply = self.call_held(own, call);
+        self.release(own);
+        reply
+    }
+
     /// Waits for the turn, and makes the call: its reply is the machine's at one place of a history that
     /// all seats share, which begins with what the seat had seen, and ends with this call. That is what
     /// the seat has then seen. An `Err` is want of memory: the call is in no history, and nothing that
@@ -169,9 +183,7 @@ impl<M: Machine<C, R>, C, R> Turn<M, C, R> {
     {
         let own = &mut seat.own;
         self.claim(rt, own);
-        let reply = self.call_held(own, call);
-        self.release(own);
-        reply
+        self.call_and_release(own, call)
     }
 
     /// As `call`, and passes the gate of `v` once, before the call, while the seat has the turn.
@@ -193,9 +205,7 @@ impl<M: Machine<C, R>, C, R> Turn<M, C, R> {
         let own = &mut seat.own;
         self.claim(rt, own);
         gate.pass(v);
-        let reply = self.call_held(own, call);
-        self.release(own);
-        reply
+        self.call_and_release(own, call)
     }
 
     /// The largest number that any state of the object has shown by now. It is that of a history which
@@ -204,7 +214,7 @@ impl<M: Machine<C, R>, C, R> Turn<M, C, R> {
     pub fn seen_high(&self, seat: &mut TurnSeat<M, C, R>) -> u64
         requires { IsSeatOf self.now seat.old }
         ensures own { IsSeatOf self.now seat.new }
-        ensures told { Told M.stands M.next M.number (view seat.old) result (view seat.new) }
+        ensures told { Published M.stands M.next M.number (view seat.old) result (view seat.new) }
     {
         self.table.shared.load::<Load>(&mut seat.own, NUMBER)
     }

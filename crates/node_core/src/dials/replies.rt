@@ -1,6 +1,6 @@
 //! What a vBucket's replies say to a dial.
 ghost use Rattle.std.specs.Prelude.{◌≡◌};
-ghost use Rattle.node_core.specs.Dials.{is_done, is_pending, follower_ask, due_of_reply, saved_of_reply};
+ghost use Rattle.node_core.specs.Dials.{is_done, is_pending, follower_ask, dues_of_reply};
 
 use vb_calls::{VbAnswer, VbReply};
 use vb_types::{Role, StreamAsk};
@@ -41,28 +41,16 @@ pub fn follower_ask(reply: &Option<VbReply>) -> Option<StreamAsk>
     }
 }
 
-/// The seqno that the vBucket may acknowledge, 0 for none.
-pub fn due_of_reply(reply: &Option<VbReply>) -> u64
-    ensures { result ≡ due_of_reply reply.now }
+/// The seqno that the vBucket may acknowledge, 0 for none, and the one up to which it has written all
+/// down.
+pub fn dues_of_reply(reply: &Option<VbReply>) -> Option<(u64, u64)>
+    ensures { result ≡ dues_of_reply reply.now }
 {
     match reply {
         Some(made) => match made.answer {
-            VbAnswer::Num(seq) => seq,
-            _ => 0,
+            VbAnswer::Dues { seq, saved } => Some((seq, saved)),
+            _ => None,
         },
-        None => 0,
-    }
-}
-
-/// Up to where the vBucket has written all down.
-pub fn saved_of_reply(reply: &Option<VbReply>) -> u64
-    ensures { result ≡ saved_of_reply reply.now }
-{
-    match reply {
-        Some(made) => match made.answer {
-            VbAnswer::Stat { saved, .. } => saved,
-            _ => 0,
-        },
-        None => 0,
+        None => None,
     }
 }

@@ -1,6 +1,6 @@
 //! What a node writes down of a vBucket.
 ghost use Rattle.std.specs.Prelude.{◌≡◌, IfOk, OnErr};
-ghost use Rattle.{node_core.specs.Flushing.{flush_if, flush_at, flush_result, took_result, saved_of_reply}, node_core.specs.Outcomes.{Wrote}, node_core.specs.Outs.{flush_out, flush_by}};
+ghost use Rattle.{node_core.specs.Flushing.{flush_at, flush_result, took_result, saved_of_reply}, node_core.specs.Outcomes.{Wrote}, node_core.specs.Outs.{flush_out, flush_by}};
 ghost use Rattle.vb_calls.specs.Jobs.{RanJob, BeganJob};
 ghost use Rattle.vb_calls.specs.declared.journals.Flushed.TheVariants.{Done};
 
@@ -8,7 +8,7 @@ use crate::changes::resolving_out;
 use crate::{Alloc, Node, NodeOut};
 use bytes::Bytes;
 use std::alloc::Global;
-use vb_calls::{Flushed, Journals, VbAccess, VbAnswer, VbCall, VbReply};
+use vb_calls::{Flushed, Journals, VbAccess, VbAnswer, VbReply};
 use vb_events::{Answer, Cause, Event};
 use vb_types::{FlushPart, Listed};
 
@@ -79,13 +79,13 @@ fn flush_result(alloc: Global, node: u8, vb: u16, came: Flushed) -> Alloc<NodeOu
 }
 
 impl<A: VbAccess, J: Journals> Node<A, J> {
-    /// Makes a step of writing a vBucket down, if there is one.
+    /// Makes a step of writing a vBucket down where there is one.
     #[tactic(auto, using(vb_calls::proofs::JobRuns::jobs))]
-    fn flush_if(&mut self, v: u16, part: FlushPart, there: bool) -> Alloc<NodeOut>
-        ensures ok { IfOk result (λ out. RanJob A.step J.asks (flush_if self.old.number v part there) self.old.vbs self.old.disks (flush_by out) self.new.vbs self.new.disks) }
+    fn flush_where(&mut self, v: u16, part: FlushPart, there: bool) -> Alloc<NodeOut>
+        ensures ok { IfOk result (λ out. RanJob A.step J.asks (flush_at self.old.number v part there) self.old.vbs self.old.disks (flush_by out) self.new.vbs self.new.disks) }
         ensures said { IfOk result (λ out. out ≡ flush_out (flush_by out)) }
         ensures rest { self.new ≡ record self.old { vbs = self.new.vbs; disks = self.new.disks } }
-        ensures began { OnErr result (BeganJob A.step J.asks (flush_if self.old.number v part there) self.old.vbs self.old.disks self.new.vbs self.new.disks) }
+        ensures began { OnErr result (BeganJob A.step J.asks (flush_at self.old.number v part there) self.old.vbs self.old.disks self.new.vbs self.new.disks) }
     {
         if !there {
             return Ok(NodeOut::refused(self.alloc, Cause::UnknownVb));
@@ -94,16 +94,14 @@ impl<A: VbAccess, J: Journals> Node<A, J> {
         flush_result(self.alloc, self.number, v, came)
     }
 
-    /// Makes a step of writing a vBucket down. An `Err` leaves connections and dials; what it began
+    /// Makes a step of writing a vBucket down, if there is one, which the access says. An `Err` leaves connections and dials; what it began
     /// may stand, and no line tells of changes that the vBucket made with it.
     pub fn flush(&mut self, v: u16, part: FlushPart) -> Alloc<NodeOut>
-        ensures ok { IfOk result (λ out. Wrote A.step J.asks v part self.old out self.new) }
+        ensures ok { IfOk result (λ out. Wrote A.step J.asks A.has v part self.old out self.new) }
         ensures err { OnErr result (self.new ≡ record self.old { vbs = self.new.vbs; disks = self.new.disks }) }
-        ensures began { OnErr result (BeganJob A.step J.asks (flush_at self.old.number v part) self.old.vbs self.old.disks self.new.vbs self.new.disks) }
+        ensures began { OnErr result (BeganJob A.step J.asks (flush_at self.old.number v part (A.has self.old.vbs v)) self.old.vbs self.old.disks self.new.vbs self.new.disks) }
     {
-        let log = self.vbs.call(v, VbCall::Log)?;
-        let there = log.is_some();
-        drop(log);
-        self.flush_if(v, part, there)
+        let there = self.vbs.is_there(v);
+        self.flush_where(v, part, there)
     }
 }

@@ -193,6 +193,15 @@ fn closed<D: Disk + Drop>(opened: VecDeque<OpenJournal<D>>, mut room: Disks<D>) 
     room
 }
 
+impl<A, J: Drop> Node<A, J> {
+    /// Ends the node, and gives the vBuckets that it reached.
+    pub fn into_vbs(self) -> A
+        ensures { result ≡ self.vbs }
+    {
+        self.vbs
+    }
+}
+
 impl<A: Drop, J> Node<A, J> {
     /// Ends the node, and gives its journals.
     pub fn into_journals(self) -> J

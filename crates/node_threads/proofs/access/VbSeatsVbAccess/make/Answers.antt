@@ -1,4 +1,4 @@
-use Rattle.std.proofs.Common.{◌≡◌, ◌++◌, ◌∷◌, [], List, refl, sym, ap, ◌∙◌}
+use Rattle.std.proofs.Common.{◌++◌, ◌∷◌, [], List, refl, sym, ap, ◌∙◌}
 use Rattle.atomic_table.specs.Seated.{TableId}
 use Rattle.vb_turn.specs.Words.{view}
 use Rattle.node_threads.specs.Seats.{Row, VbView, has_row, rows_of}
@@ -9,12 +9,15 @@ pub returns-clause-ok : goal.returns-clause-ok
 returns-clause-ok g c =
     let table : TableId = c.in_ok-turn.seat.own.table_id in
     let row : Row = record { number = c.args.v; table = table; view = view c.in_ok-turn.seat } in (
-      table,
-      c.in_ok-vb.vb,
-      c.in_ok-vb.ensures,
-      ap rows_of c.in_ok-push.ensures.items
-          ∙ (rows_push c.self.inside.slots.items _ ∙ (ap (λ (rows : List Row). rows ++ row ∷ []) c.self.view_is
-          ∙ ap (λ (w : VbView). c.args.self.now ++ record { number = c.args.v; table = table; view = w } ∷ []) c.in_ok-turn.ensures.1)),
+      sym c.has.ensures ∙ c.if-has.false,
+      (
+        table,
+        c.in_ok-vb.vb,
+        c.in_ok-vb.ensures,
+        ap rows_of c.in_ok-push.ensures.items
+            ∙ (rows_push c.self.inside.slots.items _ ∙ (ap (λ (rows : List Row). rows ++ row ∷ []) c.self.view_is
+            ∙ ap (λ (w : VbView). c.args.self.now ++ record { number = c.args.v; table = table; view = w } ∷ []) c.in_ok-turn.ensures.1)),
+      ),
     )
 
 pub returns-clause-more : goal.returns-clause-more
