@@ -2,14 +2,12 @@
 use Rattle.std.proofs.Common.{◌≡◌, ℕ, ◌<◌, Bool, true, false, cond, List, [], ◌∷◌, length, ◌++◌, get_or, set, refl, ap, sym, ◌∙◌, subst, Option, Some, None, is_some}
 use Rattle.std.specs.Prelude.{◌==◌, ◌&&◌, ◌||◌, if◌then◌else◌}
 use Rattle.std.specs.List.{find, list_any, position}
-use Rattle.vb_calls.specs.Programs.{Done, Call, after}
-use Rattle.vb_calls.specs.States.{States, states_step}
-use Rattle.vb_calls.specs.declared.calls.VbCall.TheVariants as call
+use Rattle.vb_calls.specs.Programs.{after}
+use Rattle.vb_calls.specs.States.{States}
 use Rattle.vbucket.specs.Rows.{row_put}
 use Rattle.dcp_consumer.specs.declared.handshake.Dialed.{Dialed}
-use Rattle.dcp_consumer.specs.Machine.{is_streaming, may_acknowledge}
 use Rattle.node_core.specs.declared.out.NodeOut.{NodeOut}
-use Rattle.node_core.specs.Dials.{PlainDial, DialResult, acknowledged_result, due_requested, due_met, dial_due, saved_of_reply, untold, due_of_reply as told_due}
+use Rattle.node_core.specs.Dials.{DialResult, dial_due}
 use Rattle.node_core.specs.Outcomes.{live_dial}
 use Rattle.node_core.specs.Outs.{done_out}
 use Rattle.node_world.specs.declared.link.Link.{Link}
@@ -25,27 +23,10 @@ use Rattle.node_world.specs.Stands.{Ends, ends_of, Kept, LinkStands, LinksStand,
 use Rattle.node_world.specs.Worlds.{PlainWorld, Outcome, node_outcome, with_node_at}
 use Rattle.node_world.proofs.Finding.{position_any}
 use Rattle.node_world.proofs.Held.{set_stand}
+use Rattle.node_world.proofs.Keeping.{due_dialed}
 use Rattle.node_world.proofs.OnLinks.{put_is, the, the_stands}
 use Rattle.node_world.proofs.Places.{dial_here, dial_put, dials_but, no_node, peers_stay, plain_at, step_stands}
 use Rattle.node_world.proofs.Turning.{own_feeds, own_is, own_within}
-
--- ---- a dial that acknowledges is still that of its link
-
-met_dialed : (s : DialResult) (seq : ℕ) (states : States) → (after (due_met s seq) states).1.dial.consumer.dialed ≡ s.dial.consumer.dialed
-met_dialed s seq states = by (may_acknowledge seq s.dial.consumer)
-  where
-    by : (b : Bool) → (after (if b then Call s.dial.consumer.dialed.vb call.Stat (λ reply. Done (acknowledged_result seq s (saved_of_reply reply))) else Done s) states).1.dial.consumer.dialed ≡ s.dial.consumer.dialed
-    by true = refl
-    by false = refl
-
-due_dialed : (dial : PlainDial) (states : States) → (after (dial_due dial) states).1.dial.consumer.dialed ≡ dial.consumer.dialed
-unfolding due_requested
-due_dialed dial states = by (is_streaming dial.consumer.handshake)
-  where
-    by : (b : Bool)
-        → (after (if b then Call dial.consumer.dialed.vb call.Due (λ reply. due_met (untold dial) (told_due reply)) else Done (untold dial)) states).1.dial.consumer.dialed ≡ dial.consumer.dialed
-    by true = let x = states_step states dial.consumer.dialed.vb call.Due in met_dialed (untold dial) (told_due x.1) x.0
-    by false = refl
 
 -- ---- no link feeds the vBucket, or its node is not made
 

@@ -16,12 +16,11 @@ use Rattle.vb_calls.specs.declared.journals.Flushed.{Flushed}
 use Rattle.vb_calls.specs.declared.journals.Flushed.TheVariants as flushed
 use Rattle.vb_calls.specs.Flushes.{appended_job, batch_of_reply, finish_job, flush_job, part_job, save_job, take_job, taken_job, took}
 use Rattle.vb_calls.specs.Jobs.{Job, Ended, bind_job, after_job}
-use Rattle.vb_calls.specs.Plain.{plain_step}
 use Rattle.vb_calls.specs.Shelves.{Append, Flush, Idle, Keep, Look, Out, Shelf, Shelves, Stood, Written, after_fate, ask_at, fate_of, with_shelf_at}
 use Rattle.vb_calls.specs.State.{Plain}
-use Rattle.vb_calls.specs.States.{States, states_step, call_at, with_vb_at}
-use Rattle.node_core.specs.Flushing.{FlushResult, flush_at, flush_if, flush_result, saved_of_reply}
-use Rattle.node_world.specs.Nodes.{PlainNode, flush_line, with_kept, written}
+use Rattle.vb_calls.specs.States.{States, states_step}
+use Rattle.node_core.specs.Flushing.{FlushResult, flush_at, flush_result, saved_of_reply}
+use Rattle.node_world.specs.Nodes.{PlainNode, flush_here, flush_line, with_kept, written}
 use Rattle.node_world.proofs.AfterPosts.{posts_arm, posts_shelves}
 use Rattle.node_world.proofs.Shelved.{shelf_here}
 
@@ -40,35 +39,34 @@ shelves_left node came = posts_shelves came.1.resolved (with_kept node came.0)
 -- where there is no such vBucket, its journal stays
 pub no_shelf : (n v : ℕ) (p : FlushPart) (node : PlainNode) → node.vbs v ≡ None → (flush_line n v p node).0.shelves ≡ node.shelves
 no_shelf n v p node none =
-    shelves_left node (after_job (flush_at n v p) node.vbs node.shelves)
-    ∙ ap (λ (o : Option Plain). (after_job (flush_if n v p (is_some (call_at node.vbs v call.Log o).1)) (call_at node.vbs v call.Log o).0 node.shelves).0.1) none
+    shelves_left node (after_job (flush_here n v p node) node.vbs node.shelves) ∙ ap (λ (o : Option Plain). (after_job (flush_at n v p (is_some o)) node.vbs node.shelves).0.1) none
 
 -- the arm stays
 pub flush_arm : (n v : ℕ) (p : FlushPart) (node : PlainNode) → (flush_line n v p node).0.arm ≡ node.arm
-flush_arm n v p node = let came = after_job (flush_at n v p) node.vbs node.shelves in posts_arm came.1.resolved (with_kept node came.0)
+flush_arm n v p node = let came = after_job (flush_here n v p node) node.vbs node.shelves in posts_arm came.1.resolved (with_kept node came.0)
 
 -- where there is no such vBucket
 pub no_flush : (n v : ℕ) (p : FlushPart) (node : PlainNode) → node.vbs v ≡ None → (flush_line n v p node).1.answer ≡ line.No cause.UnknownVb
-no_flush n v p node none = ap (λ (o : Option Plain). (after_job (flush_if n v p (is_some (call_at node.vbs v call.Log o).1)) (call_at node.vbs v call.Log o).0 node.shelves).1.answer) none
+no_flush n v p node none = ap (λ (o : Option Plain). (after_job (flush_at n v p (is_some o)) node.vbs node.shelves).1.answer) none
 
 module _ (n v : ℕ) where
   -- by the vBucket and its journal
   abbrev pub part_answer : FlushPart → PlainNode → Plain → Shelf → Answer
-  part_answer p node vb shelf = answer_of n v (with_vb_at node.vbs v (plain_step vb call.Log).0) (with_shelf_at node.shelves v shelf) (part_job v p shelf.flush)
+  part_answer p node vb shelf = answer_of n v node.vbs (with_shelf_at node.shelves v shelf) (part_job v p shelf.flush)
 
   pub flushed_as : (p : FlushPart) (node : PlainNode) (vb : Plain) (shelf : Shelf) → node.vbs v ≡ Some vb → node.shelves v ≡ Some shelf
-      → after_job (flush_at n v p) node.vbs node.shelves ≡ steps_of n v (with_vb_at node.vbs v (plain_step vb call.Log).0) (with_shelf_at node.shelves v shelf) (part_job v p shelf.flush)
+      → after_job (flush_here n v p node) node.vbs node.shelves ≡ steps_of n v node.vbs (with_shelf_at node.shelves v shelf) (part_job v p shelf.flush)
   unfolding flush_job
   flushed_as p node vb shelf here kept =
-      ap (λ (o : Option Plain). after_job (flush_if n v p (is_some (call_at node.vbs v call.Log o).1)) (call_at node.vbs v call.Log o).0 node.shelves) here
-      ∙ ap (λ (o : Option Shelf). steps_of n v (with_vb_at node.vbs v (plain_step vb call.Log).0) (ask_at node.shelves v Look o).0 (part_job v p (ask_at node.shelves v Look o).1)) kept
+      ap (λ (o : Option Plain). after_job (flush_at n v p (is_some o)) node.vbs node.shelves) here
+      ∙ ap (λ (o : Option Shelf). steps_of n v node.vbs (ask_at node.shelves v Look o).0 (part_job v p (ask_at node.shelves v Look o).1)) kept
 
   pub flush_is : (p : FlushPart) (node : PlainNode) (vb : Plain) (shelf : Shelf) → node.vbs v ≡ Some vb → node.shelves v ≡ Some shelf → (flush_line n v p node).1.answer ≡ part_answer p node vb shelf
   flush_is p node vb shelf here kept = ap (λ (came : (States × Shelves) × FlushResult). came.1.answer) (flushed_as p node vb shelf here kept)
 
   module _ (node : PlainNode) (vb : Plain) (shelf : Shelf) where
     abbrev states : States
-    states = with_vb_at node.vbs v (plain_step vb call.Log).0
+    states = node.vbs
 
     abbrev shelves : Shelves
     shelves = with_shelf_at node.shelves v shelf
@@ -100,7 +98,7 @@ module _ (n v : ℕ) where
 
     -- nothing is appended then
     pub untaken_kept : ((batch : Batch) → shelf.flush ≢ Out batch) → node.vbs v ≡ Some vb → node.shelves v ≡ Some shelf → (flush_line n v part.Save node).0.shelves v ≡ Some shelf
-    untaken_kept ne here kept = ap (λ (s : Shelves). s v) (shelves_left node (after_job (flush_at n v part.Save) node.vbs node.shelves)) ∙ ap (λ (came : (States × Shelves) × FlushResult). came.0.1 v) (flushed_as part.Save node vb shelf here kept) ∙ by shelf.flush ne
+    untaken_kept ne here kept = ap (λ (s : Shelves). s v) (shelves_left node (after_job (flush_here n v part.Save node) node.vbs node.shelves)) ∙ ap (λ (came : (States × Shelves) × FlushResult). came.0.1 v) (flushed_as part.Save node vb shelf here kept) ∙ by shelf.flush ne
       where
         by : (f : Flush) → ((batch : Batch) → f ≢ Out batch) → (steps_of n v states shelves (save_job v f)).0.1 v ≡ Some shelf
         by Idle ne = shelf_here node.shelves v shelf
@@ -113,7 +111,7 @@ module _ (n v : ℕ) where
         let what : Record = noted.Rows batch in
         let y : Shelf = after_fate shelf what Stood in
         let T : Shelves = with_shelf_at shelves v y in
-        ap (λ (s : Shelves). fuse_at s v) (shelves_left node (after_job (flush_at n v part.Save) node.vbs node.shelves)) ∙ ap (λ (came : (States × Shelves) × FlushResult). fuse_at came.0.1 v) (flushed_as part.Save node vb shelf here kept)
+        ap (λ (s : Shelves). fuse_at s v) (shelves_left node (after_job (flush_here n v part.Save node) node.vbs node.shelves)) ∙ ap (λ (came : (States × Shelves) × FlushResult). fuse_at came.0.1 v) (flushed_as part.Save node vb shelf here kept)
         ∙ ap (λ f. fuse_at (steps_of n v states shelves (save_job v f)).0.1 v) is
         ∙ ap (λ (o : Option Shelf). fuse_at (steps_of n v states (ask_at shelves v (Append what) o).0 (appended_job v batch (Ended flushed.Saved) (ask_at shelves v (Append what) o).1)).0.1 v) (shelf_here node.shelves v shelf)
         ∙ ap (λ fate. fuse_at (steps_of n v states (with_shelf_at shelves v (after_fate shelf what fate)) (appended_job v batch (Ended flushed.Saved) fate)).0.1 v) sound

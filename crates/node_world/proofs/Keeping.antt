@@ -58,8 +58,9 @@ use Rattle.dcp_consumer.specs.declared.handshake.Handshake.TheVariants as shaken
 use Rattle.dcp_consumer.specs.declared.passive_stream.Passive.{Passive}
 use Rattle.dcp_consumer.specs.declared.passive_stream.Passive.TheVariants as passive
 use Rattle.dcp_consumer.specs.Counting.{bytes_acknowledged, counted_bytes}
-use Rattle.dcp_consumer.specs.Machine.{over_why, ended_for, request_again, again_by, consumer_step, is_streaming, may_acknowledge}
-use Rattle.node_core.specs.Dials.{PlainDial, DialResult, heir_told, is_done_answer, is_pending, noted_for, own_result, owned, pended, role_line, state_made, state_met, acknowledged_result, adopt_result, due_requested, due_met, due_of_reply, dial_due, saved_of_reply, untold, is_broken, is_over, with_line, over_for, granted_with, is_done, go_on_with, follower_ask, again_with, again_result, rolled_back, roll_back, taken_as, message_result, call_made, passive_made, step_made, frame_taken, frames_taken, with_left, fault_met, with_end_line, bytes_counted, rest_met, bytes_taken, dial_bytes}
+use Rattle.dcp_consumer.specs.Machine.{over_why, ended_for, request_again, again_by, consumer_step}
+use Rattle.node_core.proofs.Dues.{due_always}
+use Rattle.node_core.specs.Dials.{PlainDial, DialResult, heir_told, is_done_answer, is_pending, noted_for, own_result, owned, pended, role_line, state_made, state_met, adopt_result, due_requested, dial_due, untold, is_broken, is_over, with_line, over_for, granted_with, is_done, go_on_with, follower_ask, again_with, again_result, rolled_back, roll_back, taken_as, message_result, call_made, passive_made, step_made, frame_taken, frames_taken, with_left, fault_met, with_end_line, bytes_counted, rest_met, bytes_taken, dial_bytes}
 use Rattle.node_core.specs.Peers.{PlainPeer, PeerResult, PullResult, peer_result, peer_heard, peer_frames, peer_answered, pull_result, peer_pulled}
 use Rattle.node_world.specs.Links.{frame_up, frames_up, peer_given, untold_peer}
 use Rattle.node_world.specs.Nodes.{PlainNode}
@@ -321,21 +322,9 @@ module _ (dialed : Dialed) where
   lifted : (prog : Prog DialResult) → Stays prog → Holds (lift prog)
   lifted prog stays = always_lift AnyReply AnyCall EachAsk Still prog stays
 
-  met_stays : (s : DialResult) (seq : ℕ) → Still s → Stays (due_met s seq)
-  met_stays s seq e = by (may_acknowledge seq s.dial.consumer)
-    where
-      by : (b : Bool) → Stays (if b then Call s.dial.consumer.dialed.vb call.Stat (λ reply. Done (acknowledged_result seq s (saved_of_reply reply))) else Done s)
-      by true = (tt, λ reply formed. e)
-      by false = e
-
   -- what is due is acknowledged
   due_stays : (s : DialResult) → Still s → Stays (due_requested s)
-  unfolding due_requested
-  due_stays s e = by (is_streaming s.dial.consumer.handshake)
-    where
-      by : (b : Bool) → Stays (if b then Call s.dial.consumer.dialed.vb call.Due (λ reply. due_met s (due_of_reply reply)) else Done s)
-      by true = (tt, λ reply formed. met_stays s (due_of_reply reply) e)
-      by false = e
+  due_stays s e = due_always Still s (λ seq saved. e) e AnyCall tt
 
   adopt_stays : (log : List LogEntry) (s : DialResult) → Still s → Stays (go_on_with log s)
   unfolding go_on_with

@@ -8,7 +8,7 @@ use Rattle.disk_journals.specs.Books.{Book}
 use Rattle.disk_journals.specs.Devices.{fuse_device}
 use Rattle.disk_journals.specs.Stands.{ShelvesStand}
 use Rattle.vb_types.specs.declared.journal.FlushPart.{FlushPart}
-use Rattle.vb_calls.specs.Jobs.{after_job}
+use Rattle.vb_calls.specs.Jobs.{RanJob, after_job}
 use Rattle.vb_calls.specs.Shelves.{Shelves}
 use Rattle.vb_calls.proofs.JobReadings.{ComesTo}
 use Rattle.node_core.specs.declared.conn.Conn.{Conn}
@@ -25,7 +25,7 @@ use Rattle.vb_calls.specs.State.{Plain}
 use Rattle.vb_calls.specs.States.{States, states_step, call_at, with_vb_at}
 use Rattle.vbucket.specs.declared.vb_map.VbSlot.{VbSlot}
 use Rattle.vbucket.specs.Rows.{row_at}
-use Rattle.vbucket.specs.Stands.{slot_number, SlotStands, SlotsStand}
+use Rattle.vbucket.specs.Stands.{slot_number, has_slot, SlotStands, SlotsStand}
 use Rattle.node_core.specs.declared.admin.AdminCall.{AdminCall}
 use Rattle.node_core.specs.declared.admin.AdminCall.TheVariants as admin
 use Rattle.node_core.specs.declared.out.NodeOut.{NodeOut}
@@ -38,7 +38,7 @@ use Rattle.node_world.specs.declared.script_node.ScriptNode.{ScriptNode}
 use Rattle.node_world.specs.declared.told.Told.{Told}
 use Rattle.node_world.specs.Ends.{peer_under, dial_under, KeepsEnds, kept_client_ended, kept_peer_ended, with_clients_told, TellsEnds, Carries, IsThere}
 use Rattle.node_world.specs.Lines.{out_told, was_there}
-use Rattle.node_world.specs.Nodes.{PlainNode, with_kept, with_states}
+use Rattle.node_world.specs.Nodes.{PlainNode, flush_here, with_kept, with_states}
 use Rattle.node_world.specs.Stands.{MemNode, client_part, peer_part, NodeMatch, OffStands, node_number}
 use Rattle.node_world.specs.Turns.{KeepsRole, called_at, admin_line}
 use Rattle.node_world.proofs.OfBase.{bases_told}
@@ -245,18 +245,28 @@ module _ (old : ScriptNode) (v : ℕ) (out : NodeOut) (node : MemNode) (went : A
         said,
       )
 
+-- the slots have a vBucket exactly where the plain node has it
+there_in_both : (slot : Option VbSlot) (vb : Option Plain) → SlotStands slot vb → is_some slot ≡ is_some vb
+there_in_both None None stands = refl
+there_in_both (Some slot) (Some vb) stands = refl
+there_in_both None (Some vb) stands = absurd stands
+there_in_both (Some slot) None stands = absurd stands
+
 -- a node after a step of writing a vBucket down, whose outcomes are still to be posted
 abbrev pub Flushes : ℕ → FlushPart → ScriptNode → NodeOut → ScriptNode → Type 0
 Flushes v part old out new = (plain : PlainNode) → NodeMatch old plain →
-    let (kept, told) = after_job (flush_at (node_number old) v part) plain.vbs plain.shelves in
+    let (kept, told) = after_job (flush_here (node_number old) v part plain) plain.vbs plain.shelves in
     NodeMatch new (with_kept plain kept) × (flush_by out ≡ told) × KeepsEnds old new
 
-module _ (old : ScriptNode) (v : ℕ) (part : FlushPart) (out : NodeOut) (node : MemNode) (went : Wrote (alone_step SlotsStand) MemAsks v part old.node out node) where
+module _ (old : ScriptNode) (v : ℕ) (part : FlushPart) (out : NodeOut) (node : MemNode) (went : Wrote (alone_step SlotsStand) MemAsks has_slot v part old.node out node) where
   pub flushes : Flushes v part old out (inside old node)
   flushes plain stands =
-      let job = flush_at (node_number old) v part in
+      let job = flush_here (node_number old) v part plain in
       let came : (States × Shelves) × FlushResult = after_job job plain.vbs plain.shelves in
-      let ran = known_job job old.node went.told node went.ran plain.vbs stands.slots plain.shelves stands.shelves in (
+      let there : has_slot old.node.vbs v ≡ is_some (plain.vbs v) = there_in_both (row_at slot_number v old.node.vbs) (plain.vbs v) (stands.slots v) in
+      let went_on : RanJob (alone_step SlotsStand) MemAsks job old.node.vbs old.node.disks went.told node.vbs node.disks =
+      subst (λ b. RanJob (alone_step SlotsStand) MemAsks (flush_at (node_number old) v part b) old.node.vbs old.node.disks went.told node.vbs node.disks) there went.ran in
+      let ran = known_job job old.node went.told node went_on plain.vbs stands.slots plain.shelves stands.shelves in (
         with_both old node plain came.0.0 came.0.1 ran.1 ran.2 (λ key. ap (λ (s : Slab Conn). client_part (get s key)) conns) (off_kept old (inside old node) plain.off refl keeps stands.off) stands,
         ap flush_by went.said ∙ ran.0,
         keeps,

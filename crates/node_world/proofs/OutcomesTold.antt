@@ -96,9 +96,6 @@ module _ (n v : ℕ) (came : Outcome) where
       by false = same_grows
 
 module _ (n v : ℕ) (node : PlainNode) (vb : Plain) (here : node.vbs v ≡ Some vb) (shelf : Shelf) (kept : node.shelves v ≡ Some shelf) (seq : ℕ) (is : shelf.flush ≡ Written seq) where
-  abbrev S : States
-  S = with_vb_at node.vbs v vb
-
   abbrev T : Shelves
   T = with_shelf_at node.shelves v shelf
 
@@ -108,13 +105,13 @@ module _ (n v : ℕ) (node : PlainNode) (vb : Plain) (here : node.vbs v ≡ Some
 
   -- by what stands at v
   abbrev finished : Option Plain → (States × Shelves) × FlushResult
-  finished o = let x = call_at S v (call.FlushDone seq) o in ((x.0, T'), flush_result n v (flushed.Done x.1))
+  finished o = let x = call_at node.vbs v (call.FlushDone seq) o in ((x.0, T'), flush_result n v (flushed.Done x.1))
 
   done_is : flush_line n v part.Done node ≡ written node (finished (Some vb))
   done_is =
       ap (written node)
       (flushed_as n v part.Done node vb shelf here kept
-      ∙ ap (λ f. steps_of n v S T (finish_job v f)) is ∙ ap finished (ap (λ b. if b then Some vb else node.vbs v) (eq-eqb v v refl)))
+      ∙ ap (λ f. steps_of n v node.vbs T (finish_job v f)) is ∙ ap finished here)
 
 -- ---- a change of role
 

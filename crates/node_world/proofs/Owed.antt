@@ -1,7 +1,7 @@
 -- behind a batch that is done the link that feeds its vBucket acknowledges what is due
 use Rattle.std.proofs.Common.{◌≡◌, ◌≤◌, ◌<◌, ℕ, Bool, true, false, [], ◌∷◌, ◌++◌, append-nil, refl, ap, ◌∙◌, Option, Some, None}
 use Rattle.std.specs.Prelude.{◌≢◌, ◌==◌, ◌&&◌, filter, if◌then◌else◌}
-use Rattle.std.proofs.lemmas.Bool.{and_parts, eq-eqb, eqb-true, le-ltb, lt-ltb}
+use Rattle.std.proofs.lemmas.Bool.{and_parts, eqb-true, le-ltb, lt-ltb}
 use Rattle.vb_events.specs.declared.event.Answer.TheVariants as line
 use Rattle.vb_events.specs.declared.event.Event.TheVariants as event
 use Rattle.vb_events.specs.declared.event.StreamName.TheVariants as name
@@ -12,7 +12,7 @@ use Rattle.vb_calls.specs.States.{States, call_at, with_vb_at}
 use Rattle.vbucket.specs.Rows.{row_put}
 use Rattle.dcp_consumer.specs.declared.handshake.Handshake.TheVariants as handshake
 use Rattle.dcp_consumer.specs.Machine.{is_streaming, may_acknowledge}
-use Rattle.node_core.specs.Dials.{DialResult, acknowledged_result, dial_due, due_requested, due_in as told_in, due_met, due_of_reply as told_due, saved_of_reply, untold}
+use Rattle.node_core.specs.Dials.{DialResult, acknowledged_result, dial_due, dues_in, due_requested, due_met, dues_of_reply, untold}
 use Rattle.node_core.proofs.Acknowledging.{idle_is_silent}
 use Rattle.node_world.specs.declared.told.Told.{Told}
 use Rattle.node_world.specs.Cuts.{own_link}
@@ -76,30 +76,23 @@ module _ (n v : ℕ) (came : Outcome) where
       abbrev S : States
       S = with_vb_at node.vbs dv vb
 
-      still : S dv ≡ Some vb
-      still = ap (λ b. if b then Some vb else node.vbs dv) (eq-eqb dv dv refl)
-
       -- by whether there is something to acknowledge
       abbrev met : Bool → States × DialResult
-      met b = after (if b then Call dv call.Stat (λ reply. Done (acknowledged_result seq s (saved_of_reply reply))) else Done s) S
-
-      -- by what stands there
-      abbrev stated : Option Plain → States × DialResult
-      stated o = let x = call_at S dv call.Stat o in (x.0, acknowledged_result seq s (saved_of_reply x.1))
+      met b = (S, if b then acknowledged_result seq s vb.saved else s)
 
       asked : after (dial_due (dial_of link)) node.vbs ≡ met (may_acknowledge seq link.consumer)
       unfolding due_requested
       asked =
-          ap (λ h. after (if is_streaming h then Call dv call.Due (λ reply. due_met s (told_due reply)) else Done s) node.vbs) streams
-          ∙ ap (λ o. let x = call_at node.vbs dv call.Due o in after (due_met s (told_due x.1)) x.0) here ∙ ap (λ a. after (due_met s (told_in a)) S) may.due
+          ap (λ h. after (if is_streaming h then Call dv call.Due (λ reply. Done (due_met s (dues_of_reply reply))) else Done s) node.vbs) streams
+          ∙ ap (λ o. let x = call_at node.vbs dv call.Due o in (x.0, due_met s (dues_of_reply x.1))) here ∙ ap (λ a. (S, due_met s (dues_in a))) may.due
 
       comes : due_in n v came ≡ with_acknowledged n link node w told (after (dial_due (dial_of link)) node.vbs)
       comes = ap (λ a. by_count (is_counted a)) is ∙ ap by_link owned ∙ ap (due_at n link w told) may.made
 
       owes : link.consumer.acked < seq → Acknowledges n v seq vb link came (due_in n v came)
       owes above =
-          let whole : due_in n v came ≡ with_acknowledged n link node w told (stated (Some vb)) =
-          comes ∙ ap (with_acknowledged n link node w told) (asked ∙ (λ i. met (is_streaming (streams i) && lt-ltb link.consumer.acked seq above i)) ∙ ap stated still) in
+          let whole : due_in n v came ≡ with_acknowledged n link node w told (met true) =
+          comes ∙ ap (with_acknowledged n link node w told) (asked ∙ (λ i. met (is_streaming (streams i) && lt-ltb link.consumer.acked seq above i))) in
           record {
             told = ap (λ (o : Outcome). o.1) whole ∙ (λ i. record told { events = told.events ++ event.Acknowledged (name.Link (link_number link)) (same.0 i) (same.1 i) seq vb.saved ∷ [] });
             links = ap (λ (o : Outcome). o.0.links) whole ∙ ap (λ u. row_put link_number (link_number link) (acknowledging u seq link) w.links) same.1;

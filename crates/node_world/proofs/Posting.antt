@@ -9,7 +9,7 @@ use Rattle.node_core.specs.declared.out.NodeOut.{NodeOut}
 use Rattle.vb_calls.specs.Jobs.{after_job}
 use Rattle.vb_calls.specs.Programs.{Prog, after}
 use Rattle.vb_types.specs.declared.journal.FlushPart.{FlushPart}
-use Rattle.node_core.specs.Flushing.{FlushResult, flush_at}
+use Rattle.node_core.specs.Flushing.{FlushResult}
 use Rattle.node_core.specs.Outcomes.{conn_awaits, value_at}
 use Rattle.node_core.specs.Outs.{flush_by}
 use Rattle.node_core.specs.Clients.{PlainClient}
@@ -17,7 +17,7 @@ use Rattle.node_world.specs.declared.script_node.ScriptNode.{ScriptNode}
 use Rattle.node_world.specs.declared.script_node.TheConstants.{MAX_CLIENTS}
 use Rattle.node_world.specs.declared.told.Told.{Told}
 use Rattle.node_world.specs.Ends.{Carries, KeepsEnds, Posts, PostsAll, PostsSo, PostsTo}
-use Rattle.node_world.specs.Nodes.{PlainNode, all_posted, awaiting, awaiting_at, awaits_in, first_of, flush_line, posted, posted_if, posted_to, settled, with_kept, with_posts, with_states}
+use Rattle.node_world.specs.Nodes.{PlainNode, all_posted, awaiting, awaiting_at, awaits_in, first_of, flush_here, flush_line, posted, posted_if, posted_to, settled, with_kept, with_posts, with_states}
 use Rattle.node_world.specs.Stands.{NodeMatch, node_number}
 use Rattle.node_world.specs.Bases.{NoneHas}
 use Rattle.node_world.proofs.Armed.{both_keep}
@@ -184,7 +184,7 @@ then_told f old mid new out told first second plain stands =
 -- a step of writing a vBucket down
 pub writes : (v : ℕ) (part : FlushPart) (old mid new : ScriptNode) (out : NodeOut) (told : Told) → Flushes v part old out mid → Carries (with_posts (flush_by out)) mid told new → Carries (flush_line (node_number old) v part) old told new
 writes v part old mid new out told first second =
-    then_told (λ plain. let came = after_job (flush_at (node_number old) v part) plain.vbs plain.shelves in (with_kept plain came.0, came.1)) old mid new out told first second
+    then_told (λ plain. let came = after_job (flush_here (node_number old) v part plain) plain.vbs plain.shelves in (with_kept plain came.0, came.1)) old mid new out told first second
 
 -- a call that let a vBucket resolve durable writes
 pub settles_told : (called : PlainNode → Prog FlushResult) (old mid new : ScriptNode) (out : NodeOut) (told : Told) → SettlesBy called old out mid → Carries (with_posts (flush_by out)) mid told new

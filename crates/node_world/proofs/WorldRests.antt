@@ -32,7 +32,7 @@ use Rattle.dcp_producer.specs.declared.yields.Yielded.{Yielded}
 use Rattle.node_core.specs.Admin.{AdminResult, admin_job}
 use Rattle.node_core.specs.GivingUp.{GiveResult, dead_line, peer_gives_up, resolved_in}
 use Rattle.node_core.specs.Dials.{dial_due, dial_bytes}
-use Rattle.node_core.specs.Flushing.{FlushResult, chain_changed, flush_at, ticked}
+use Rattle.node_core.specs.Flushing.{FlushResult, chain_changed, ticked}
 use Rattle.node_core.specs.Peers.{PeerResult, peer_answered, peer_frames, peer_heard}
 use Rattle.node_core.specs.Loading.{are_short, start_job, starts_of}
 use Rattle.node_core.specs.declared.admin.AdminCall.{AdminCall}
@@ -42,7 +42,7 @@ use Rattle.node_world.specs.Arms.{fail_arm, fired_by, stop_arm, under_arm}
 use Rattle.node_world.specs.Cuts.{closed_at, cut_off, links_ended, own_link, unlinked}
 use Rattle.node_world.specs.Dues.{due_at, due_in, due_of, is_counted}
 use Rattle.node_world.specs.Links.{PlainLink, LinkResult, dial_of, frame_up, frames_up, link_number, moved_len, peer_of, producer_node, consumer_node, down_at, pump_at, untold_peer, up_at}
-use Rattle.node_world.specs.Nodes.{PlainNode, all_posted, arm_at, bytes_at, chain_causes, chain_line, chain_made, client_at, clock_at, done, empty_node, bytes_if, first_cause, flush_line, hang_at, hung_if, if_up, pull_at, pull_if, refusal, refused_or, replica_at, replica_causes, save_line, shelf_or_blank, tick_line, vb_at, vb_causes, vb_made, vb_noted, with_clients_ended, with_disk, with_kept, with_states}
+use Rattle.node_world.specs.Nodes.{PlainNode, all_posted, arm_at, bytes_at, chain_causes, chain_line, chain_made, client_at, clock_at, done, empty_node, flush_here, bytes_if, first_cause, flush_line, hang_at, hung_if, if_up, pull_at, pull_if, refusal, refused_or, replica_at, replica_causes, save_line, shelf_or_blank, tick_line, vb_at, vb_causes, vb_made, vb_noted, with_clients_ended, with_disk, with_kept, with_states}
 use Rattle.node_world.specs.Power.{after_broken, after_fire, all_cut, all_unlinked, burnt_arm, crash_causes, down_lines, dropped, is_broken_answer, loaded_node, not_opened, opened_at, start_at, start_call, start_causes, start_if, start_one, started_by, starts_from, stopped_node, touches, with_arm, with_broken}
 use Rattle.node_world.specs.Pumps.{gives_at, gone_told, with_given, with_gone, with_yielded}
 use Rattle.node_world.specs.Rests.{Rests, RestsIf}
@@ -146,7 +146,7 @@ role_keeps n u asked v node h = by (is_some node.off) _ h
 
 flush_keeps : (n u : ℕ) (p : FlushPart) → Keeps (flush_line n u p)
 flush_keeps n u p v node h =
-    let came = after_job (flush_at n u p) node.vbs node.shelves in posts_keep v came.1.resolved (with_kept node came.0) (job_rests (flush_at n u p) node.vbs node.shelves v h)
+    let came = after_job (flush_here n u p node) node.vbs node.shelves in posts_keep v came.1.resolved (with_kept node came.0) (job_rests (flush_here n u p node) node.vbs node.shelves v h)
 
 chain_keeps : (n u : ℕ) (others : Members) → Keeps (chain_line n u others)
 chain_keeps n u others v node h =

@@ -15,7 +15,7 @@ use Rattle.vb_types.specs.declared.journal.Record.TheVariants.{State}
 use Rattle.vb_types.specs.declared.role.Role.{Role}
 use Rattle.vb_types.specs.declared.role.Role.TheVariants as role
 use Rattle.vb_calls.specs.Programs.{after}
-use Rattle.vb_calls.specs.Jobs.{after_job}
+use Rattle.vb_calls.specs.Jobs.{Job, after_job}
 use Rattle.vb_calls.specs.Flushes.{wrote_of}
 use Rattle.vb_calls.specs.Shelves.{Append, Fate, Shelf, Shelves, blank_shelf, shelves_step, with_shelf_at}
 use Rattle.vb_calls.specs.State.{Plain, first_log, is_active, new_vb}
@@ -223,9 +223,13 @@ with_posts told node = let (node', lines) = all_posted told.resolved node in (no
 abbrev pub written : PlainNode → (States × Shelves) × FlushResult → PlainNode × Told
 written node (kept, told) = with_posts told (with_kept node kept)
 
+-- a step of writing the vBucket v down, where the node has one
+abbrev pub flush_here : ℕ → ℕ → FlushPart → PlainNode → Job FlushResult
+flush_here n v part node = flush_at n v part (is_some (node.vbs v))
+
 -- `take N V`, `save N V` and `done N V` at the node N: a step of writing a vBucket down
 abbrev pub flush_line : ℕ → ℕ → FlushPart → PlainNode → PlainNode × Told
-flush_line n v part node = written node (after_job (flush_at n v part) node.vbs node.shelves)
+flush_line n v part node = written node (after_job (flush_here n v part node) node.vbs node.shelves)
 
 -- `save N V`: the batch that was taken is appended, under the node's arm
 abbrev pub save_line : ℕ → ℕ → PlainNode → PlainNode × Told

@@ -26,7 +26,7 @@ batch_done w n v = on_node w n (flush_line n v part.Done)
 pub record MayAcknowledge (w : PlainWorld) (n v seq : ℕ) (node : PlainNode) (vb : Plain) (link : PlainLink) : Type 0 where
   pub made : w.nodes n ≡ Some node
   pub here : node.vbs v ≡ Some vb
-  pub due : (plain_step vb call.Due).1.answer ≡ answer.Num seq
+  pub due : (plain_step vb call.Due).1.answer ≡ answer.Dues seq vb.saved
   pub fed : filter (feeds n v) w.links ≡ link ∷ []
 
 -- the link once it acknowledged all up to a seqno: that goes up behind what is on its way

@@ -11,6 +11,7 @@ pub mod Spelled
 pub mod Joins
 mod Signs
 pub mod Steps
+pub mod Nibbles
 pub mod Sending
 pub mod Readings
 pub mod Words

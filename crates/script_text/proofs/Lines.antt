@@ -7,7 +7,8 @@ use Rattle.std.specs.List.{onto_first, position_or_len}
 use Rattle.std.proofs.lemmas.Bool.{cases_lt, leb-true}
 use Rattle.std.proofs.lemmas.List.{take_all, length-take-le}
 use Rattle.std.proofs.lemmas.List.Quantifiers.{position-Some}
-use Rattle.std.proofs.lemmas.List.Sums.{fails_before_first}
+use Rattle.std.proofs.lemmas.List.Sums.{fails_before_first, position_or_len_is}
+use Rattle.memchr.specs.Find.{IsFirstByte, is_byte}
 use Rattle.script_text.specs.Lines.{lines_of}
 use Rattle.script_text.specs.Grammar.{start_line, branches_of, members_of, chain_line, chain_words, counted_verb, verb_of}
 use Rattle.script_text.specs.Numbers.{node_of, vbucket_of, numbers_of}
@@ -16,6 +17,22 @@ use Rattle.script_text.specs.declared.verb.Verb.TheVariants as verb
 use Rattle.script_text.specs.declared.verb.VbVerb.TheVariants as vb_verb
 use Rattle.script_text.specs.declared.verb.NodeVerb.TheVariants as node_verb
 use Rattle.script_text.specs.declared.line.TheConstants.{WORDS_READ, BRANCHES, OTHERS}
+
+-- a search for a byte finds its first place
+no_pass : (t : Bool) → (t ≡ true → ⊥) → t ≡ false
+no_pass true h = absurd (h refl)
+no_pass false h = refl
+
+pub first_is : (c : ℕ) (bytes : List ℕ) (at : Option ℕ) → IsFirstByte (is_byte c) bytes at → at ≡ position (λ b. b == c) bytes
+first_is c bytes None h =
+    let none : (k : ℕ) → k < length bytes → (get_or bytes k 0 == c) ≡ false = λ k lt. no_pass (get_or bytes k 0 == c) (h k (omega arith) lt) in
+    let end = position_or_len_is (λ b. b == c) bytes (length bytes) 0 (omega arith) none (λ lt. absurd (omega arith)) in
+    grind (arith, end)
+first_is c bytes (Some k) h =
+    let within : k < length bytes = h.0.high in
+    let none : (j : ℕ) → j < k → (get_or bytes j 0 == c) ≡ false = λ j lt. no_pass (get_or bytes j 0 == c) (h.0.before j (omega arith) lt) in
+    let here = position_or_len_is (λ b. b == c) bytes k 0 (omega arith) none (λ lt. h.1) in
+    grind (arith, here, within)
 
 -- a line ends at the first newline
 lines_at : (bytes : List ℕ) (k : ℕ) → k < length bytes → (get_or bytes k 0 == 10) ≡ true → ((j : ℕ) → j < k → (get_or bytes j 0 == 10) ≡ false) → lines_of bytes ≡ take k bytes ∷ lines_of (drop (suc k) bytes)

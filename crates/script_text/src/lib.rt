@@ -2,6 +2,7 @@
 //! group by group.
 #![tactic(auto)]
 
+mod digits;
 mod events;
 mod laws;
 mod line;

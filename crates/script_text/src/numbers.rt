@@ -38,11 +38,15 @@ fn next_digit(number: Option<u64>, b: u8) -> Option<u64>
 pub fn number(text: &[u8]) -> Option<u64>
     ensures { result ≡ number_of text.now }
 {
-    if text.is_empty() || text.len() > 1 && text[0] == b'0' {
-        return None;
+    match text {
+        [] => None,
+        // Most have one digit.
+        [digit] => next_digit(Some(0), *digit),
+        [b'0', ..] => None,
+        _ => text
+            .iter()
+            .fold(Some(0), |number, b| next_digit(number, *b)),
     }
-    text.iter()
-        .fold(Some(0), |number, b| next_digit(number, *b))
 }
 
 fn below(limit: u64, text: &[u8]) -> Option<u64>

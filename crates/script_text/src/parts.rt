@@ -6,7 +6,8 @@ ghost use Rattle.hex.specs.Hex.{encode_lower};
 ghost use Rattle.vb_types.specs.declared.change.Act.TheVariants as act;
 ghost use Rattle.script_text.specs.Transcript.{StartsWith, spaced, place_text, stream_text, hex_text, parent_text, flag_text, role_text, level_text, doc_text, act_text, entry_text, log_text, ask_text, verdict_text, sent_text, reason_text, cause_text, why_text};
 
-use bytes::{BufMut, BytesMut};
+use crate::digits::encode_into;
+use bytes::BytesMut;
 use std::alloc::AllocError;
 use vb_events::{Cause, EndReason, ItemAct, StreamName, Why};
 use vb_types::{Act, AskAnswer, Change, Doc, Level, LogEntry, Role, StreamAsk};
@@ -15,7 +16,21 @@ use vb_types::{Act, AskAnswer, Change, Doc, Level, LogEntry, Role, StreamAsk};
 const SIGNED: usize = 21;
 
 /// A sign, and a number in decimal digits.
+#[inline]
+#[tactic(auto, using(std::proofs::lemmas::Fmt::decimal_digit))]
 pub fn push_number(text: &mut BytesMut, sign: u8, number: u64) -> Result<(), AllocError>
+    ensures ok { OnOk result (text.new.items ≡ text.old.items ++ sign ∷ decimal number) }
+    ensures err { OnErr result (text.new.items ≡ text.old.items) }
+{
+    if number < 10 {
+        return text.extend_from_slice(&[sign, b'0' + number as u8]);
+    }
+    push_long(text, sign, number)
+}
+
+/// The same of a number of any length. It stands apart, so that one of a single digit takes no call.
+#[inline(never)]
+fn push_long(text: &mut BytesMut, sign: u8, number: u64) -> Result<(), AllocError>
     ensures ok { OnOk result (text.new.items ≡ text.old.items ++ sign ∷ decimal number) }
     ensures err { OnErr result (text.new.items ≡ text.old.items) }
 {
@@ -30,9 +45,10 @@ fn push_digits(text: &mut BytesMut, bytes: &[u8]) -> Result<(), AllocError>
     ensures err { OnErr result (text.new.items ≡ text.old.items) }
 {
     let start = text.len();
-    text.put_bytes(0, 2 * bytes.len())?;
-    // The room fits, so this does not fail.
-    let _ = hex::encode_to_slice(bytes, &mut text.as_mut_slice()[start..]);
+    let digits = 2 * bytes.len();
+    text.reserve(digits)?;
+    text.advance_mut(digits);
+    encode_into(bytes, &mut text.as_mut_slice()[start..]);
     Ok(())
 }
 
@@ -50,6 +66,7 @@ pub fn push_hex(text: &mut BytesMut, bytes: &[u8]) -> Result<(), AllocError>
 }
 
 /// A word, and a key in hexadecimal digits.
+#[inline]
 pub fn push_key(text: &mut BytesMut, word: &[u8], key: &[u8]) -> Result<(), AllocError>
     ensures ok { OnOk result (text.new.items ≡ text.old.items ++ word.now ++ 32 ∷ hex_text key.now) }
     ensures err { OnErr result (StartsWith text.new.items text.old.items) }
@@ -59,6 +76,7 @@ pub fn push_key(text: &mut BytesMut, word: &[u8], key: &[u8]) -> Result<(), Allo
 }
 
 /// A word, and a vBucket of a node.
+#[inline]
 #[tactic(auto, unfolding(crate::specs::Transcript::place_text))]
 pub fn push_at(text: &mut BytesMut, word: &[u8], node: u8, vb: u16) -> Result<(), AllocError>
     ensures ok { OnOk result (text.new.items ≡ text.old.items ++ word.now ++ 32 ∷ place_text node vb) }
@@ -78,6 +96,7 @@ pub fn push_word(text: &mut BytesMut, word: &str) -> Result<(), AllocError>
 }
 
 /// A word, and a number.
+#[inline]
 pub fn push_count(text: &mut BytesMut, word: &[u8], number: u64) -> Result<(), AllocError>
     ensures ok { OnOk result (text.new.items ≡ text.old.items ++ word.now ++ 32 ∷ decimal number) }
     ensures err { OnErr result (StartsWith text.new.items text.old.items) }
@@ -98,6 +117,7 @@ pub fn push_numbers(text: &mut BytesMut, numbers: &[u64]) -> Result<(), AllocErr
 }
 
 /// A word, a vBucket of a node, and numbers.
+#[inline]
 pub fn push_counts(
     text: &mut BytesMut,
     word: &[u8],
@@ -129,6 +149,7 @@ pub fn push_name(text: &mut BytesMut, stream: StreamName) -> Result<(), AllocErr
 }
 
 /// A word, and a stream's connection.
+#[inline]
 pub fn push_named(text: &mut BytesMut, word: &[u8], stream: StreamName) -> Result<(), AllocError>
     ensures ok { OnOk result (text.new.items ≡ text.old.items ++ word.now ++ 32 ∷ stream_text stream) }
     ensures err { OnErr result (StartsWith text.new.items text.old.items) }

@@ -4,6 +4,8 @@ ghost use Rattle.{std.specs.List.{All}, script_text.specs.Lines.{lines_of}, scri
 
 use crate::sent::{says_verb, verb_in};
 use crate::verb::{Script, ScriptLine};
+use bytes::BytesMut;
+use memchr::memchr;
 use std::alloc::{AllocError, Global};
 use std::marker::Model;
 
@@ -33,13 +35,13 @@ fn is_blank(text: &[u8]) -> bool
 
 /// What the line of this number says.
 #[tactic(auto, unfolding(crate::specs::Scripts::line_said))]
-fn read_line(alloc: Global, line: u64, text: &[u8]) -> Result<Said, AllocError>
+fn read_line(alloc: Global, room: &mut BytesMut, line: u64, text: &[u8]) -> Result<Said, AllocError>
     ensures { IfOk result (λ said. said ≡ line_said line text.now) }
 {
     if is_blank(text) {
         return Ok(Said::Nothing);
     }
-    match verb_in(alloc, text)? {
+    match verb_in(alloc, room, text)? {
         Some(verb) => Ok(Said::Line(ScriptLine { line, verb })),
         None => Ok(Said::Bad(line)),
     }
@@ -56,10 +58,11 @@ fn is_outside(alloc: Global, text: &[u8]) -> Result<bool, AllocError>
 }
 
 /// Where the first newline stands.
+#[tactic(auto, using(crate::proofs::Lines::first_is))]
 pub fn newline(bytes: &[u8]) -> Option<usize>
     ensures { result ≡ position (λ b. b == 10) bytes.now }
 {
-    bytes.iter().position(|b| *b == b'\n')
+    memchr(b'\n', bytes)
 }
 
 /// The first line, and what follows its newline.
@@ -85,12 +88,13 @@ pub fn parse(alloc: Global, bytes: &[u8]) -> Result<Result<Script, BadLine>, All
         IfOk parsed (λ script. All (λ said. (1 ≤ said.line) × (said.line ≤ length bytes.now)) script)) }
 {
     let mut script = Script::new(alloc);
+    let mut room = BytesMut::new(alloc);
     let mut line = 0;
     let mut rest = bytes;
     while !rest.is_empty() {
         let (text, after) = first_line(rest);
         line += 1;
-        match read_line(alloc, line, text)? {
+        match read_line(alloc, &mut room, line, text)? {
             Said::Line(said) => script.push(said)?,
             Said::Nothing => {}
             Said::Bad(line) => return Ok(Err(BadLine { line })),
@@ -132,7 +136,7 @@ struct Place<'a> {
 impl<'a> Place<'a> {
     /// The next line that says a verb, if one follows.
     #[tactic(auto, using(crate::proofs::Steps::verb_first))]
-    fn next(&mut self, alloc: Global) -> Result<Option<ScriptLine>, AllocError>
+    fn next(&mut self, alloc: Global, room: &mut BytesMut) -> Result<Option<ScriptLine>, AllocError>
         requires { self.old.line + length self.old.rest.now < 2 ^ 64 }
         ensures given { IfOk result (λ next. MatchOption next
             ((lines_behind self.old.line self.old.rest.now ≡ []) × (lines_behind self.new.line self.new.rest.now ≡ []))
@@ -143,7 +147,7 @@ impl<'a> Place<'a> {
             let (text, after) = first_line(self.rest);
             self.line += 1;
             self.rest = after;
-            match read_line(alloc, self.line, text)? {
+            match read_line(alloc, room, self.line, text)? {
                 Said::Line(line) => return Ok(Some(line)),
                 Said::Nothing => {}
                 Said::Bad(_) => {}
@@ -153,11 +157,13 @@ impl<'a> Place<'a> {
     }
 }
 
-/// The lines of a script that say a verb, each with its number, read one after the other.
+/// The lines of a script that say a verb, each with its number, read one after the other. The bytes of
+/// short ones share the room.
 #[derive(Drop)]
 pub struct ScriptLines<'a> {
     alloc: Global,
     place: Place<'a>,
+    room: BytesMut,
 }
 
 impl<'a> Model for ScriptLines<'a> {
@@ -185,13 +191,14 @@ impl<'a> ScriptLines<'a> {
             line: 0,
             rest: bytes,
         };
-        ScriptLines { alloc, place }
+        let room = BytesMut::new(alloc);
+        ScriptLines { alloc, place, room }
     }
 
     /// The next line, if one follows.
     pub fn next(&mut self) -> Result<Option<ScriptLine>, AllocError>
         ensures { IfOk result (λ next. MatchOption next ((self.old ≡ []) × (self.new ≡ [])) (λ line. self.old ≡ line ∷ self.new)) }
     {
-        self.place.next(self.alloc)
+        self.place.next(self.alloc, &mut self.room)
     }
 }

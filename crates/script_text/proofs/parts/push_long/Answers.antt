@@ -2,7 +2,7 @@ use Rattle.std.proofs.Common.{◌≤◌, ◌∙◌, length, decimal, arith, rule
 use Rattle.std.proofs.lemmas.Fmt.{length-decimal-le}
 use Rattle.std.proofs.lemmas.List.{append-nil}
 use Rattle.script_text.proofs.Signs.{sign_and_digits}
-use Rattle.script_text.proofs.parts.push_number.Goals as goal
+use Rattle.script_text.proofs.parts.push_long.Goals as goal
 
 pub write_digits-start-requires : goal.write_digits-start-requires
 write_digits-start-requires c =
