@@ -66,7 +66,7 @@ show r said behind l ends = let s = l.complete ends in record { image = s.lines;
 -- ---- streams of links
 
 link_mark : (r : Chronicle) (l start end flags : ℕ) → LawfulMark r (name.Link l) start end flags → OfLink r l (λ g. CheckedMark (stream_history r g) true g.ask g.place g.last start end)
-link_mark r l start end flags (g, stream, m, memory) = (
+link_mark r l start end flags (g, stream, m, source) = (
   g,
   stream,
   record {
@@ -78,7 +78,7 @@ link_mark r l start end flags (g, stream, m, memory) = (
 )
 
 link_item : (r : Chronicle) (l : ℕ) (item : ItemLine) → LawfulItem r (name.Link l) item → OfLink r l (λ g. CheckedItem g.last item)
-link_item r l item (g, b, stream, opens, last, next) = (g, stream, (b, last, next))
+link_item r l item (g, b, stream, opens, last, next, source) = (g, stream, (b, last, next))
 
 link_state : (r : Chronicle) (l : ℕ) (role : Role) → LawfulState r l role → OfLink r l (CheckedState r)
 link_state r l role s = (s.stream, (s.dial.vb, ap (is_dial_of s.dial.vb) s.takes_on.dialed ∙ eq-eqb s.dial.vb s.dial.vb refl, s.takes_on.stream), (s.whole, s.all))

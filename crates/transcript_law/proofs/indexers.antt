@@ -32,6 +32,7 @@ pub mod Requests
 pub mod Answering
 pub mod Documents
 pub mod Granting
+pub mod Given
 pub mod Hands
 pub mod Passed
 pub mod Passing

@@ -15,6 +15,7 @@ pub mod AtRest
 pub mod OwnRests
 pub mod CallsKept
 pub mod Carried
+pub mod FirstMarks
 pub mod Standing
 pub mod Forked
 pub mod Carrying

@@ -8,6 +8,7 @@ pub mod Cutting
 pub mod Takes
 pub mod Downing
 pub mod DownAsks
+pub mod Exactly
 pub mod Firsts
 pub mod Followed
 pub mod Frames
@@ -31,6 +32,7 @@ pub mod Requests
 pub mod Retreating
 pub mod Rolling
 pub mod Sent
+pub mod Sources
 pub mod Spoken
 pub mod StateTurns
 pub mod Streaming
@@ -38,7 +40,9 @@ pub mod Taken
 pub mod Talks
 pub mod Tips
 pub mod Turning
+pub mod Given
 pub mod Turns
+pub mod StreamTurns
 pub mod Unread
 pub mod Unstated
 pub mod Upgoing

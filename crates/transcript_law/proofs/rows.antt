@@ -79,6 +79,8 @@ pub mod StoredJudged
 pub mod StoredOutcomes
 pub mod KeptRows
 pub mod BreakRows
+pub mod BackfillRows
+pub mod BackfillClients
 pub mod ClosingRows
 pub mod WaitRows
 pub mod OwnWaitRows

@@ -78,7 +78,7 @@ fresh sync ask = record { ask = ask; opaque = 9; sync = sync; branch = 5; place 
 
 -- a snapshot of these changes, of which these were put
 abbrev pub snapshot : List Change → ℕ → ℕ → List ItemLine → Begun
-snapshot shown from end items = record { history = shown; from = from; end = end; items = items }
+snapshot shown from end items = record { history = shown; from = from; end = end; disk = false; items = items }
 
 -- the stream in that snapshot
 abbrev pub inside : Bool → StreamAsk → List Change → ℕ → ℕ → List ItemLine → ClientStream
@@ -190,7 +190,7 @@ finished g = record g { over = true }
 
 -- ---- markers that are told otherwise
 
--- the marker of both changes, from disk
+-- the marker of both changes, from the journal
 abbrev pub disk_marked : List Event
 disk_marked = event.Marked (name.Client 0 1) 0 2 2 ∷ frame_of 0 (msg.SnapshotMarker 0 2 2) ∷ []
 

@@ -16,7 +16,7 @@ use Rattle.branch_model.specs.Snapshots.{plain_view}
 use Rattle.branch_model.specs.Trees.{Branch, hist}
 use Rattle.transcript_law.specs.ClientFrames.{Request, bytes_behind, is_closed_by, is_sync, request_in, setup_after}
 use Rattle.transcript_law.specs.Questions.{flow_put, past_answer}
-use Rattle.transcript_law.specs.StreamsTold.{more_items, with_at, with_id}
+use Rattle.transcript_law.specs.StreamsTold.{is_from_disk, more_items, with_at, with_id}
 pub use Rattle.transcript_law.specs.StreamsTold.{Begun, ClientKnown, ClientStream, ClientsKnown, ItemLine, Setup, StreamLine, blank_client, no_setup}
 
 -- ---- streams
@@ -34,9 +34,9 @@ stream_view tree g = view g.sync (hist tree g.branch)
 abbrev pub new_stream : Setup → Request → List LogEntry → ClientStream
 new_stream s r log = record { ask = r.ask; opaque = r.frame.opaque; sync = is_sync s; branch = uuid_of (front log); place = r.ask.start; last = None; over = false; turned = false; left = [] }
 
--- it with one more snapshot begun up to `end`, while the branches were these
-abbrev pub with_mark : List Branch → ℕ → ClientStream → ClientStream
-with_mark tree end g = record g { place = end; last = Some (record { history = stream_view tree g; from = g.place; end = end; items = [] }) }
+-- it with one more snapshot begun up to `end`, by a marker with these flags, while the branches were these
+abbrev pub with_mark : List Branch → ℕ → ℕ → ClientStream → ClientStream
+with_mark tree end flags g = record g { place = end; last = Some (record { history = stream_view tree g; from = g.place; end = end; disk = is_from_disk flags; items = [] }) }
 
 -- with one more item of its last snapshot
 abbrev pub with_sent : ItemLine → ClientStream → ClientStream
@@ -44,7 +44,7 @@ with_sent item g = record g { last = option_map (more_items item) g.last }
 
 -- what a line that was told makes of it
 abbrev pub told_of : List Branch → StreamLine → ClientStream → ClientStream
-told_of tree (StreamLine.Marks start end) g = with_mark tree end g
+told_of tree (StreamLine.Marks start end flags) g = with_mark tree end flags g
 told_of tree (StreamLine.Sends item) g = with_sent item g
 told_of tree StreamLine.Ends g = record g { over = true }
 
@@ -144,7 +144,7 @@ clients_frame tree clients n c bytes (Some line) = with_client clients n c (past
 -- what is known with one more line, but for that of a role, while the branches are these. One that was told closed is blank again
 abbrev pub clients_line : List Branch → ClientsKnown → Event → ClientsKnown
 clients_line tree clients (event.Asked (name.Client n c) m v ask high log said) = with_client clients n c (past_asked (request_in (clients n c).bytes) v log said (clients n c))
-clients_line tree clients (event.Marked (name.Client n c) start end flags) = with_client clients n c (with_told (StreamLine.Marks start end) (clients n c))
+clients_line tree clients (event.Marked (name.Client n c) start end flags) = with_client clients n c (with_told (StreamLine.Marks start end flags) (clients n c))
 clients_line tree clients (event.Item (name.Client n c) seq act key) = with_client clients n c (with_told (StreamLine.Sends (record { seq = seq; act = act; key = key })) (clients n c))
 clients_line tree clients (event.Finished (name.Client n c) reason) = with_client clients n c (with_told StreamLine.Ends (clients n c))
 clients_line tree clients (event.Reply n c bytes) = clients_frame tree clients n c bytes (clients n c).told

@@ -89,7 +89,7 @@ after_follow = after_lines after_active (event.Role 0 0 role.Replica ∷ [])
 abbrev pub after_promote : Chronicle
 after_promote = after_lines after_dead (active_vb_lines 0 7)
 
--- the marker of the same snapshot, as if it was taken from disk
+-- the marker of the same snapshot, as if it came from the journal
 abbrev pub disk_marker : List Event
 disk_marker = event.Marked (name.Link 1) 0 2 2 ∷ []
 

@@ -1,5 +1,5 @@
 -- the streams of vBuckets, and the links and clients that they are of
-use Rattle.std.specs.Prelude.{◌≡◌, ◌⊎◌, ℕ, true, false, List, [], ◌∷◌, Option, Some, None}
+use Rattle.std.specs.Prelude.{◌≡◌, ◌≢◌, ◌⊎◌, ℕ, true, false, List, [], ◌∷◌, Option, Some, None}
 use Rattle.dcp_producer.specs.Producers.{PlainStream}
 use Rattle.node_core.specs.Clients.{PlainClient}
 use Rattle.node_world.specs.Links.{PlainLink, link_number, producer_node, consumer_node}
@@ -11,7 +11,9 @@ use Rattle.vb_events.specs.declared.event.StreamName.TheVariants as name
 use Rattle.takeover.specs.declared.take_over.TakeStep.TheVariants.{Own}
 use Rattle.vb_types.specs.declared.role.Role.{Role}
 use Rattle.vb_calls.specs.Following.{is_follower}
-use Rattle.vb_calls.specs.Plain.{Plain}
+use Rattle.vb_calls.specs.Plain.{Plain, plain_step}
+use Rattle.vb_calls.specs.declared.calls.VbAnswer.TheVariants as answer
+use Rattle.vb_calls.specs.declared.calls.VbCall.TheVariants as call
 use Rattle.vb_calls.specs.declared.stream.Stream.{Stream}
 use Rattle.vbucket.specs.Rows.{row_at}
 
@@ -67,6 +69,19 @@ pub record StreamsAreFed (w : PlainWorld) : Type 0 where
   pub opened : (who : StreamName) (n v id : ℕ) → HasFed w who n v id → HasStream w n v id
   pub dialed : (l n v id : ℕ) (link : PlainLink) → IsLinked w l link → IsOf n v id link → link.consumer.dialed.vb ≡ v
   pub apart : (who other : StreamName) (n v id : ℕ) → HasFed w who n v id → HasFed w other n v id → who ≡ other
+
+-- a vBucket knows the stream of this number: it answers Absent neither where it is asked for the stream's place nor to a take
+abbrev pub Knows : Plain → ℕ → Type 0
+Knows vb id = ((plain_step vb (call.Place id)).1.answer ≢ answer.Absent) × ((plain_step vb (call.Take id)).1.answer ≢ answer.Absent)
+
+-- where there is a vBucket
+abbrev pub KnowsIn : Option Plain → ℕ → Type 0
+KnowsIn None id = ⊥
+KnowsIn (Some vb) id = Knows vb id
+
+-- each stream that the producer of an open link or of an open client's connection says that it has is known to its vBucket: so none is ended since its vBucket lost it
+abbrev pub StreamsAreKnown : PlainWorld → Type 0
+StreamsAreKnown w = (who : StreamName) (n v id : ℕ) → HasFed w who n v id → KnowsIn (vb_in (w.nodes n) v) id
 
 -- the vBucket that a link feeds took its branch over by this link, whose end alone is to come
 abbrev pub IsOwner : PlainLink → Type 0

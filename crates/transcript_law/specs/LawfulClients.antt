@@ -1,5 +1,5 @@
 -- what the lines of clients' streams may tell: each stands directly before the frame that it tells of, which is spelled so for its stream
-use Rattle.std.specs.Prelude.{◌≡◌, ◌⊎◌, ℕ, ◌<◌, ◌≤◌, ◌==◌, ◌&&◌, Bool, true, false, not, if◌then◌else◌, nat_lt, List, ◌∷◌, Option, Some, None}
+use Rattle.std.specs.Prelude.{◌≡◌, ◌⊎◌, ℕ, ◌<◌, ◌≤◌, ◌==◌, ◌&&◌, ◌||◌, Bool, true, false, not, if◌then◌else◌, nat_lt, List, ◌∷◌, Option, Some, None}
 use Rattle.mcbp_dcp.specs.DcpFrames.{dcp_frame}
 use Rattle.mcbp_dcp.specs.declared.message.DcpMsg.{DcpMsg}
 use Rattle.mcbp_dcp.specs.declared.message.DcpMsg.TheVariants as msg
@@ -26,7 +26,7 @@ use Rattle.transcript_law.specs.LinesTold.{Chronicle}
 use Rattle.transcript_law.specs.ClientFrames.{Request, is_closed_by, request_in, setup_after}
 use Rattle.transcript_law.specs.Questions.{flow_now, served_frames}
 use Rattle.transcript_law.specs.ClientStreams.{Begun, ClientKnown, ClientStream, ItemLine, STREAM_NUMBERS, Setup, held_for, stream_view, unclosed, vb_in_header, view}
-use Rattle.transcript_law.specs.StreamLaws.{FROM_MEMORY, IsNextItem, IsPutWhole, IsWholeIf, LawfulSaid, item_of_change, meant_end, meant_start}
+use Rattle.transcript_law.specs.StreamLaws.{IsFromSource, IsNextItem, IsPutWhole, IsUnreplaced, IsWholeIf, LawfulSaid, item_of_change, meant_end, meant_start}
 
 -- ---- the frame behind a line
 
@@ -138,10 +138,10 @@ pub record IsNextMarker (tree : List Branch) (g : ClientStream) (start end : ℕ
   pub reaches : ReachesMeant g.last tree g end
   pub whole : (xs : List Change) × Covers xs (stream_view tree g) g.place end
 
--- a marker of a client's stream, from memory
+-- a marker of a client's stream, whose snapshot comes from where its flags say
 pub record LawfulClientMark (chronicle : Chronicle) (known : ClientKnown) (n c start end flags : ℕ) (behind : List Event) : Type 0 where
   pub put : IsPut n c known (msg.SnapshotMarker start end flags) behind
-  pub memory : flags ≡ FROM_MEMORY
+  pub source : IsFromSource flags end (chronicle.disk_at n (vb_in_header put.bytes)).saved
   pub marker : IsNextMarker chronicle.tree put.stream start end
 
 -- ---- items
@@ -150,15 +150,19 @@ pub record LawfulClientMark (chronicle : Chronicle) (known : ClientKnown) (n c s
 abbrev pub starts_below : ClientStream → Begun → Bool
 starts_below g b = b.from == g.ask.start && nat_lt (meant_start g.ask) g.ask.start
 
+-- so they are in a snapshot from the journal
+abbrev pub writes_out : ClientStream → Begun → Bool
+writes_out g b = b.disk || starts_below g b
+
 -- a change of its vBucket as a stream is sent it in this snapshot
 abbrev pub sent_in : ClientStream → Begun → Change → Change
-sent_in g b c = if g.sync && not (starts_below g b) then c else plain c
+sent_in g b c = if g.sync && not (writes_out g b) then c else plain c
 
 -- one of these changes, as it is sent
 abbrev pub IsSentOf : ClientStream → Begun → List Change → Change → Type 0
 IsSentOf g b held x = (c : Change) × IsIn c held × (x ≡ sent_in g b c)
 
--- an item of a client's stream: of a change of what the stream is shown of its branch, as its vBucket holds it, or, where that got a role, as it held it before, which goes on with the snapshot that was begun last, before the stream's end; behind it stands that change, whole
+-- an item of a client's stream: of a change of what the stream is shown of its branch, as its vBucket holds it, or, where that got a role, as it held it before, which goes on with the snapshot that was begun last, before the stream's end, and where that is from the journal, was not replaced; behind it stands that change, whole
 pub record LawfulClientItem (chronicle : Chronicle) (known : ClientKnown) (n c : ℕ) (item : ItemLine) (behind : List Event) : Type 0 where
   pub change : Change
   pub told : item_of_change change ≡ item
@@ -169,6 +173,7 @@ pub record LawfulClientItem (chronicle : Chronicle) (known : ClientKnown) (n c :
   pub shown : IsOf begun.history change
   pub held : IsSentOf put.stream begun (held_for put.stream (chronicle.held n (vb_in_header put.bytes))) change
   pub next : IsNextItem begun item
+  pub unreplaced : begun.disk ≡ true → IsUnreplaced begun.history begun.end change
 
 -- ---- ends
 

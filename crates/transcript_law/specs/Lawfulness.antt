@@ -43,7 +43,7 @@ use Rattle.transcript_law.specs.{Questions.{Question, question_of}, StreamsTold.
 use Rattle.transcript_law.specs.Unanswered.{AllAnswered, AsksDurably}
 use Rattle.transcript_law.specs.LawfulAnswers.{HasNumber, LawfulReply}
 use Rattle.transcript_law.specs.LawfulClients.{LawfulClientAsk, LawfulClientEnd, LawfulClientItem, LawfulClientMark}
-pub use Rattle.transcript_law.specs.StreamLaws.{FROM_MEMORY, GrantsAs, IsFrontOf, IsIfKnown, IsNextItem, IsWholeIf, LawfulSaid, LawfulVerdict, SharesFront, item_of_change, line_act, meant_end, meant_start}
+pub use Rattle.transcript_law.specs.StreamLaws.{GrantsAs, IsFromSource, IsFrontOf, IsIfKnown, IsNextItem, IsOfSource, IsWholeIf, LawfulSaid, LawfulVerdict, SharesFront, fed_saved, item_of_change, line_act, meant_end, meant_start}
 use Rattle.transcript_law.specs.Bound.{IsAnswered}
 use Rattle.transcript_law.specs.Clients.{Heard}
 use Rattle.durability.specs.Laws.{HasOne}
@@ -303,13 +303,18 @@ pub record IsMarker (tree : List Branch) (g : Granted) (start end : ℕ) : Type 
 abbrev pub IsStream : Chronicle → StreamName → Granted → Type 0
 IsStream chronicle stream g = (v : ℕ) × (is_stream_of chronicle stream v ≡ true) × (chronicle.stream_of stream v ≡ Some g)
 
--- a marker of a stream, which tells where its snapshot was taken from: so far each from memory
-abbrev pub LawfulMark : Chronicle → StreamName → ℕ → ℕ → ℕ → Type 0
-LawfulMark chronicle stream start end flags = (g : Granted) × IsStream chronicle stream g × IsMarker chronicle.tree g start end × (flags ≡ FROM_MEMORY)
+-- what counts as saved where a stream comes from: the vBucket that its link dials
+abbrev pub stream_saved : Chronicle → StreamName → ℕ
+stream_saved chronicle (name.Link l) = fed_saved chronicle (chronicle.dial_of l)
+stream_saved chronicle (name.Client n c) = 0
 
--- an item of a stream, before the stream's end
+-- a marker of a stream, whose snapshot comes from where its flags say
+abbrev pub LawfulMark : Chronicle → StreamName → ℕ → ℕ → ℕ → Type 0
+LawfulMark chronicle stream start end flags = (g : Granted) × IsStream chronicle stream g × IsMarker chronicle.tree g start end × IsFromSource flags end (stream_saved chronicle stream)
+
+-- an item of a stream, before the stream's end; where its snapshot is from the journal, it tells of a change that was not replaced
 abbrev pub LawfulItem : Chronicle → StreamName → ItemLine → Type 0
-LawfulItem chronicle stream item = (g : Granted) × (b : Begun) × IsStream chronicle stream g × (g.over ≡ false) × (g.last ≡ Some b) × IsNextItem b item
+LawfulItem chronicle stream item = (g : Granted) × (b : Begun) × IsStream chronicle stream g × (g.over ≡ false) × (g.last ≡ Some b) × IsNextItem b item × IsOfSource b item
 
 -- a stream that was asked for with no end, and for no takeover, ends with the reason 2
 abbrev pub EndsBy : StreamAsk → ℕ → Type 0

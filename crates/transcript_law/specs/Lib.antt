@@ -72,3 +72,4 @@ pub mod AnsweredWrites
 pub mod StoredRows
 pub mod Breaks
 pub mod BreakRows
+pub mod BackfillRows

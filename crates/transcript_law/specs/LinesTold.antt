@@ -31,7 +31,7 @@ use Rattle.vb_calls.specs.State.{is_active}
 pub use Rattle.vb_calls.specs.Spans.{is_durable}
 pub use Rattle.transcript_law.specs.LastLines.{Conns, LastLine, OwnChange, number_of, numbered, risen_through, risen_to, served_then, told_for, with_served}
 pub use Rattle.transcript_law.specs.TakeoversTold.{Answered, Obeyed, Obeys, Put, TakeoverKnown, dialed_for, with_moved, with_role, with_state}
-pub use Rattle.transcript_law.specs.StreamsTold.{Begun, ClientsKnown, ItemLine, blank_client, more_items, with_at, with_id}
+pub use Rattle.transcript_law.specs.StreamsTold.{Begun, ClientsKnown, ItemLine, blank_client, is_from_disk, more_items, with_at, with_id}
 use Rattle.transcript_law.specs.ClientStreams.{clients_line, past_turn, with_clients_of}
 
 -- a stream that was let continue: the request, the producer's failover log, the place up to which snapshots were begun, the last one of them, whether its
@@ -315,13 +315,13 @@ after_ask chronicle l v ask log (ask_answer.Refuse code) = chronicle
 abbrev pub stream_branch : Granted → ℕ
 stream_branch g = uuid_of (front g.log)
 
--- the stream with one more snapshot begun, whose marker goes from `start` to `end`, while the branches were these
-abbrev pub with_begun : List Branch → ℕ → ℕ → Granted → Granted
-with_begun tree start end g = record {
+-- the stream with one more snapshot begun, whose marker goes from `start` to `end` and has these flags, while the branches were these
+abbrev pub with_begun : List Branch → ℕ → ℕ → ℕ → Granted → Granted
+with_begun tree start end flags g = record {
   ask = g.ask;
   log = g.log;
   place = end;
-  last = Some (record { history = hist tree (stream_branch g); from = g.place; end = end; items = [] });
+  last = Some (record { history = hist tree (stream_branch g); from = g.place; end = end; disk = is_from_disk flags; items = [] });
   over = g.over;
   marks = g.marks ++ (start, end) ∷ [];
   coming = g.coming;
@@ -469,7 +469,7 @@ after_line chronicle (event.Reply n c bytes) = after_client_line chronicle (even
 after_line chronicle (event.Closed n c) = after_client_line chronicle (event.Closed n c)
 after_line chronicle (event.Asked (name.Link l) n v ask high log said) = after_ask chronicle l v ask log said
 after_line chronicle (event.Asked (name.Client m c) n v ask high log said) = after_client_line chronicle (event.Asked (name.Client m c) n v ask high log said)
-after_line chronicle (event.Marked (name.Link l) start end flags) = with_changed chronicle (name.Link l) (with_begun chronicle.tree start end)
+after_line chronicle (event.Marked (name.Link l) start end flags) = with_changed chronicle (name.Link l) (with_begun chronicle.tree start end flags)
 after_line chronicle (event.Marked (name.Client m c) start end flags) = after_client_line chronicle (event.Marked (name.Client m c) start end flags)
 after_line chronicle (event.Item (name.Link l) seq act key) = with_changed chronicle (name.Link l) (with_item (record { seq = seq; act = act; key = key }))
 after_line chronicle (event.Item (name.Client m c) seq act key) = after_client_line chronicle (event.Item (name.Client m c) seq act key)

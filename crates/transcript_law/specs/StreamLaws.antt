@@ -1,5 +1,6 @@
--- what is common to the streams of links and of clients: how requests are answered, and how items go on with snapshots
-use Rattle.std.specs.Prelude.{◌≡◌, ◌≢◌, ℕ, ◌<◌, List, [], ◌∷◌, ◌++◌, map, Option, Some, None}
+-- what is common to the streams of links and of clients: how requests are answered, how items go on with snapshots, and what is asked besides of a snapshot from the journal
+use Rattle.std.specs.Prelude.{◌≡◌, ◌≢◌, ℕ, ◌<◌, ◌≤◌, ◌⊎◌, true, List, [], ◌∷◌, ◌++◌, map, Option, Some, None}
+use Rattle.vb_types.specs.Histories.{Slot, last_of, plain, upto}
 use Rattle.vb_types.specs.declared.change.Act.{Act}
 use Rattle.vb_types.specs.declared.change.Act.TheVariants as act
 use Rattle.vb_types.specs.declared.change.Change.{Change}
@@ -14,9 +15,10 @@ use Rattle.vb_events.specs.declared.event.ItemAct.{ItemAct}
 use Rattle.vb_events.specs.declared.event.ItemAct.TheVariants as item_act
 use Rattle.branch_model.specs.Histories.{last_seq}
 use Rattle.branch_model.specs.Requests.{effective_ss, effective_se, rule}
-use Rattle.branch_model.specs.Snapshots.{Covers}
+use Rattle.branch_model.specs.Snapshots.{Covers, slot_lasts}
 use Rattle.branch_model.specs.Trees.{Branch, Shared}
-use Rattle.transcript_law.specs.LinesTold.{Begun, Chronicle, ItemLine}
+use Rattle.transcript_law.specs.LinesTold.{Begun, Chronicle, Dial, ItemLine}
+pub use Rattle.transcript_law.specs.StreamsTold.{FROM_DISK, FROM_MEMORY}
 
 -- where it is known, it is this
 abbrev pub IsIfKnown : {A : Type 0} → Option A → A → Type 0
@@ -78,10 +80,6 @@ abbrev pub IsWholeIf : Option Begun → Type 0
 IsWholeIf None = Unit {0}
 IsWholeIf (Some b) = IsFrontOf b b.items []
 
--- a marker's flag where its snapshot was taken from memory
-abbrev pub FROM_MEMORY : ℕ
-FROM_MEMORY = 1
-
 -- an item goes on with the snapshot that was begun last, and is its last one where it has the snapshot's end
 abbrev pub IsNextItem : Begun → ItemLine → Type 0
 IsNextItem b item = (more : List Change) × IsFrontOf b (b.items ++ item ∷ []) more × (item.seq ≡ b.end → more ≡ [])
@@ -94,3 +92,30 @@ EndsThere b = (before : List ItemLine) × (item : ItemLine) × (b.items ≡ befo
 abbrev pub IsPutWhole : Option Begun → Type 0
 IsPutWhole None = Unit {0}
 IsPutWhole (Some b) = EndsThere b
+
+-- ---- where a snapshot comes from
+
+-- what counts as saved at the vBucket that a link dials, if it dials one
+abbrev pub fed_saved : Chronicle → Option Dial → ℕ
+fed_saved chronicle None = 0
+fed_saved chronicle (Some dial) = (chronicle.disk_at dial.producer dial.vb).saved
+
+-- a marker tells by its flags where its snapshot comes from, which is memory or the journal and nothing else; one from the journal ends no higher than what its vBucket counts as saved
+pub record IsFromSource (flags end saved : ℕ) : Type 0 where
+  pub source : (flags ≡ FROM_MEMORY) ⊎ (flags ≡ FROM_DISK)
+  pub below : flags ≡ FROM_DISK → end ≤ saved
+
+-- x is what the journal gives of h up to `end` in a slot: the last change there, and a commit as the set or the removal that it makes. No later one replaced it, which those that memory gives need not be; and none is a commit. That each such change is there is asked of a whole snapshot, wherever it comes from
+pub record IsUnreplaced (h : List Change) (end : ℕ) (x : Change) : Type 0 where
+  pub slot : Slot
+  pub change : Change
+  pub last : last_of slot (upto h end) ≡ Some change
+  pub written : x ≡ plain change
+
+-- so is what an item of a snapshot from the journal tells
+abbrev pub IsOfSource : Begun → ItemLine → Type 0
+IsOfSource b item = b.disk ≡ true → (x : Change) × IsUnreplaced b.history b.end x × (item ≡ item_of_change x)
+
+-- the items of a snapshot tell of the changes that are the last ones of their slots, in their order, with commits written out, and of no others
+abbrev pub HasExactly : Begun → Type 0
+HasExactly b = b.items ≡ map (λ c. item_of_change (plain c)) (slot_lasts b.history b.from b.end)

@@ -14,11 +14,22 @@ pub record ItemLine : Type 0 where
   pub act : ItemAct
   pub key : List ℕ
 
--- a snapshot that a marker began: its branch's history then, as the stream shows it, the places that it goes from and to, and the items behind the marker so far
+-- a marker's flags, by where its snapshot comes from: what its vBucket has in memory, or its journal
+abbrev pub FROM_MEMORY : ℕ
+FROM_MEMORY = 1
+
+abbrev pub FROM_DISK : ℕ
+FROM_DISK = 2
+
+abbrev pub is_from_disk : ℕ → Bool
+is_from_disk flags = flags == FROM_DISK
+
+-- a snapshot that a marker began: its branch's history then, as the stream shows it, the places that it goes from and to, whether it comes from the journal, and the items behind the marker so far
 pub record Begun : Type 0 where
   pub history : List Change
   pub from : ℕ
   pub end : ℕ
+  pub disk : Bool
   pub items : List ItemLine
 
 -- what OPEN and CONTROL set on a client's connection, as far as its streams hang on it: whether it is open, whether durable writes are asked for, and whether it gave a name
@@ -41,7 +52,7 @@ pub record ClientStream : Type 0 where
 
 -- what a line told of a client's stream, whose frame comes next: a marker, an item, or the stream's end
 pub data StreamLine : Type 0 where
-  Marks : (start end : ℕ) → StreamLine
+  Marks : (start end flags : ℕ) → StreamLine
   Sends : (item : ItemLine) → StreamLine
   Ends : StreamLine
 
@@ -99,4 +110,4 @@ with_id table k x = λ u. if u == k then x else table u
 
 -- the snapshot with one more item
 abbrev pub more_items : ItemLine → Begun → Begun
-more_items item b = record { history = b.history; from = b.from; end = b.end; items = b.items ++ item ∷ [] }
+more_items item b = record { history = b.history; from = b.from; end = b.end; disk = b.disk; items = b.items ++ item ∷ [] }

@@ -31,7 +31,7 @@ ghost use Rattle.vb_types.specs.declared.role.Role.TheVariants as role;
 /// then of the next; the first one starts and ends as the request means. No marker comes inside a
 /// snapshot of its own stream; from above the end before, or short of what the request means; to where
 /// no change ends it; where the end that was asked for was reached, behind a role of the vBucket, or
-/// behind the stream's end; and from disk.
+/// behind the stream's end; and from the journal, where nothing is saved.
 pub fn judged_client_markers()
     ensures whole { LawfulPut two (one (fresh true all_changes)) (marked 0 0 2) }
     ensures first { LawfulPut two (one (fresh true all_changes)) (marked 0 0 1) }

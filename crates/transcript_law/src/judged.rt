@@ -103,7 +103,8 @@ pub fn judged_prefixes()
 /// Two changes are sent in one snapshot, or each in its own, and a request from inside a snapshot is
 /// met by a marker of that snapshot. Not lawful are a marker that starts elsewhere than the request
 /// means, or ends below; one that ends where no change is; one behind a snapshot of which an item was
-/// not put; one of a link that dials for another vBucket than the stream's; and one that names the disk.
+/// not put; one of a link that dials for another vBucket than the stream's; and one that names the
+/// journal, where nothing is saved.
 pub fn judged_markers()
     ensures whole { Lawful two_followed (sent_so both_sent_lines) }
     ensures parts { Lawful two_followed (sent_so (marker_line 0 1 ∷ first_item_line ∷ marker_line 1 2 ∷ next_item_line ∷ [])) }

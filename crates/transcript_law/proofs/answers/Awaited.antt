@@ -23,7 +23,8 @@ use Rattle.vbucket.proofs.Backing.{are_left, none_idle}
 use Rattle.vbucket.proofs.Committing.{commits}
 use Rattle.vbucket.proofs.Prepares.{gone, pend_stays, put}
 use Rattle.vbucket.proofs.Preparing.{durable_free, in_late}
-use Rattle.vbucket.proofs.RowIs.{RowIs, StartIs, Adopts, Chains, Counts, Expires, Flushes, Inherits, Leads, Marks, Prepares, Receives, Rolls, Saves, Seals, Settles, Streams, Tells, Turns, Writes, Yields, row_is}
+use Rattle.vbucket.proofs.Trimmed.{trimmed_image}
+use Rattle.vbucket.proofs.RowIs.{RowIs, StartIs, Adopts, Chains, Counts, Expires, Flushes, Inherits, Leads, Marks, Prepares, Receives, Rolls, Saves, Seals, Settles, Streams, Tells, Trims, Turns, Writes, Yields, row_is}
 use Rattle.vbucket.proofs.Soundness.{follows_idle, start_sound, stays}
 use Rattle.vbucket.proofs.Storing.{differ_at, image_pushed, nothing_waits, said_none, seqs_at}
 use Rattle.vbucket.specs.Committing.{CommitsAll, IsCommitted}
@@ -247,6 +248,7 @@ row_stood vb (Streams c streams said is) s t w p some o = inl (record { among = 
 row_stood vb (Adopts log f) s t w p some o = inl (record { among = o.among; entry = o.entry; same = o.same })
 row_stood vb (Marks start end f fits) s t w p some o = inl (record { among = o.among; entry = o.entry; same = o.same })
 row_stood vb (Seals was) s t w p some o = inl (record { among = o.among; entry = o.entry; same = o.same })
+row_stood vb Trims s t w p some o = inl (record { among = o.among; entry = ap (λ (i : Picture). get i.pending w.key) (sym (trimmed_image vb s.spanned)) ∙ o.entry; same = o.same })
 row_stood vb (Flushes x e) s t w p some o = inl (record { among = o.among; entry = o.entry; same = o.same })
 row_stood vb (Writes write clock free) s t w p some o = inl (written_stood vb write clock free s w p o)
 row_stood vb (Receives c a f next is) s t w p some o = absurd (idle_none vb w s f o.among)

@@ -21,7 +21,7 @@ use Rattle.vb_types.specs.declared.change.Act.TheVariants as act
 use Rattle.vbucket.proofs.Committing.{commits}
 use Rattle.vbucket.proofs.Prepares.{gone, put, waits_above}
 use Rattle.vbucket.proofs.Preparing.{in_late}
-use Rattle.vbucket.proofs.RowIs.{RowIs, StartIs, Adopts, Chains, Counts, Expires, Flushes, Inherits, Leads, Marks, Prepares, Receives, Rolls, Saves, Seals, Settles, Streams, Tells, Turns, Writes, Yields, row_is}
+use Rattle.vbucket.proofs.RowIs.{RowIs, StartIs, Adopts, Chains, Counts, Expires, Flushes, Inherits, Leads, Marks, Prepares, Receives, Rolls, Saves, Seals, Settles, Streams, Tells, Trims, Turns, Writes, Yields, row_is}
 use Rattle.vbucket.proofs.Soundness.{start_sound}
 use Rattle.vbucket.proofs.Storing.{seqs_at}
 use Rattle.vbucket.specs.Committing.{Commits, CommitsAll, Tells as TellsWho}
@@ -136,6 +136,7 @@ row_told vb (Streams c streams said is) s t w some i = inl i
 row_told vb (Adopts log f) s t w some i = inl i
 row_told vb (Marks start end f fits) s t w some i = inl i
 row_told vb (Seals was) s t w some i = inl i
+row_told vb Trims s t w some i = inl i
 row_told vb (Flushes x e) s t w some i = inl i
 row_told vb (Writes write clock free) s t w some i = inl i
 row_told vb (Receives c a f next is) s t w some i = absurd (idle_none vb w s f i)

@@ -116,7 +116,7 @@ due_none n v o all = by (is_counted o.1.answer)
     at link None there = all
     at link (Some node) there =
         let next : PlainNode = with_states node (after (dial_due (dial_of link)) node.vbs).0 in
-        put_none o.0 n next all (none_on (Some node) (Some next) (stays_kept node next (λ c. refl) (ran_idle (dial_due (dial_of link)) node.vbs (due_makes IsIdle tt tt (dial_of link)))) there)
+        put_none o.0 n next all (none_on (Some node) (Some next) (stays_kept node next (λ c. refl) (ran_idle (dial_due (dial_of link)) node.vbs (due_makes IsIdle tt (dial_of link)))) there)
 
     of : (l : Option PlainLink) → NoneWaits (due_of n o.0 o.1 l).0
     of None = all

@@ -11,7 +11,7 @@ use Rattle.vb_calls.specs.Shelves.{Shelves, shelves_step}
 use Rattle.vb_calls.specs.States.{states_step}
 use Rattle.vb_calls.specs.declared.calls.Resolved.{Resolved}
 use Rattle.vb_calls.specs.declared.calls.VbCall.TheVariants as call
-use Rattle.vbucket.proofs.RowIs.{RowIs, Adopts, Flushes, Marks, Receives, Rolls, Seals, Settles, Streams, Tells, Turns, Writes, Yields, begins, row_is}
+use Rattle.vbucket.proofs.RowIs.{RowIs, Adopts, Flushes, Marks, Receives, Rolls, Seals, Settles, Streams, Tells, Trims, Turns, Writes, Yields, begins, row_is}
 use Rattle.vbucket.specs.{DurableLaws.{IsQuiet}, Laws.{IsTimely}}
 use Rattle.node_core.specs.Flushing.{resolved_in}
 
@@ -32,6 +32,7 @@ row_leaves vb (Streams c streams said is) idle q w i = i
 row_leaves vb (Adopts log f) idle q w i = i
 row_leaves vb (Marks start end f fits) idle q w i = i
 row_leaves vb (Seals was) idle q w i = i
+row_leaves vb Trims idle q w i = i
 row_leaves vb (Flushes x e) idle q w i = i
 row_leaves vb (Writes write clock free) idle q w i = absurd q
 row_leaves vb (Receives c a f next is) idle q w i = absurd idle

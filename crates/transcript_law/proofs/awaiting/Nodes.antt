@@ -5,7 +5,7 @@ use Rattle.client_session.specs.declared.session.Awaited.{Awaited}
 use Rattle.dcp_producer.specs.Producers.{is_client}
 use Rattle.durability.specs.Chains.{Links, Members, is_chain}
 use Rattle.node_core.specs.Clients.{Handling, PlainClient, client_fed}
-use Rattle.node_core.specs.Flushing.{FlushResult, chain_changed, flush_at, flush_if, flush_result, resolved_in, settled_by, settled_result, ticked}
+use Rattle.node_core.specs.Flushing.{FlushResult, chain_changed, flush_at, flush_result, resolved_in, settled_by, settled_result, ticked}
 use Rattle.vb_calls.specs.Durable.{expired}
 use Rattle.vb_calls.specs.declared.journals.Flushed.{Flushed}
 use Rattle.vb_calls.specs.declared.journals.Flushed.TheVariants as flushed
@@ -13,7 +13,7 @@ use Rattle.vb_types.specs.declared.journal.Batch.{Batch}
 use Rattle.vb_types.specs.declared.journal.FlushPart.{FlushPart}
 use Rattle.vb_types.specs.declared.journal.FlushPart.TheVariants as part
 use Rattle.vbucket.specs.Laws.{IsTimely}
-use Rattle.node_world.specs.Nodes.{all_posted, chain_line, chain_made, flush_line, is_active_one, save_line, tick_line, with_kept}
+use Rattle.node_world.specs.Nodes.{flush_here, all_posted, chain_line, chain_made, flush_line, is_active_one, save_line, tick_line, with_kept}
 use Rattle.node_world.specs.Arms.{placed}
 use Rattle.node_world.specs.declared.script_node.TheConstants.{MAX_CLIENTS}
 use Rattle.std.proofs.lemmas.Bool.{cases_eq}
@@ -188,20 +188,17 @@ module _ (n v : ℕ) where
   part_once part.All (Out batch) = all_once batch
   part_once part.All (Written seq) = done_once seq
 
-  flush_if_once : (p : FlushPart) (there : Bool) → SettlesOnce Tells (flush_if n v p there)
+  flush_once : (p : FlushPart) (there : Bool) → SettlesOnce Tells (flush_at n v p there)
   unfolding flush_job
-  flush_if_once p true = bind_once Tells (flush_result n v) (flush_job v p) (λ flush. part_once p flush)
-  flush_if_once p false = refl
-
-  flush_once : (p : FlushPart) → SettlesOnce Tells (flush_at n v p)
-  flush_once p = inl ((tt, tt), λ reply. flush_if_once p (is_some reply))
+  flush_once p true = bind_once Tells (flush_result n v) (flush_job v p) (λ flush. part_once p flush)
+  flush_once p false = refl
 
   pub flush_waits : (p : FlushPart) (node : PlainNode) → Good n [] node → NoneWaitsInVain (flush_line n v p node).0
   flush_waits p node g =
-      let x = after_job (flush_at n v p) node.vbs node.shelves in
-      let k = settles_once Tells (flush_at n v p) node.vbs node.shelves (flush_once p) g.still in
+      let x = after_job (flush_here n v p node) node.vbs node.shelves in
+      let k = settles_once Tells (flush_here n v p node) node.vbs node.shelves (flush_once p (is_some (node.vbs v))) g.still in
       told_waits n x.1.resolved node (with_kept node x.0) refl (λ c. refl) refl
-      (ran_job Still IsTimely still_steps (λ id. tt) (λ v made. IsTimely made) (λ v ask. Unit {0}) (λ a. Unit {0}) (λ v made k. k) (flush_at n v p) node.vbs node.shelves (flush_tame n v p) g.still)
+      (ran_job Still IsTimely still_steps (λ id. tt) (λ v made. IsTimely made) (λ v ask. Unit {0}) (λ a. Unit {0}) (λ v made k. k) (flush_here n v p node) node.vbs node.shelves (flush_tame n v p (is_some (node.vbs v))) g.still)
       (subst (λ rs. KeptOr rs node.vbs x.0.0) (sym k.2) k.1) g
 
   -- under the node's arm

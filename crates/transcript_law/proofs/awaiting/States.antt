@@ -11,7 +11,7 @@ use Rattle.vb_calls.specs.Jobs as job
 use Rattle.vb_calls.specs.Shelves.{Ask, Shelves, shelves_step}
 use Rattle.vb_calls.specs.States.{states_step}
 use Rattle.vb_calls.specs.declared.calls.VbCall.TheVariants as call
-use Rattle.vbucket.proofs.RowIs.{RowIs, Adopts, Flushes, Marks, Receives, Rolls, Seals, Settles, Streams, Tells, Turns, Writes, Yields, begins, row_is}
+use Rattle.vbucket.proofs.RowIs.{RowIs, Adopts, Flushes, Marks, Receives, Rolls, Seals, Settles, Streams, Tells, Trims, Turns, Writes, Yields, begins, row_is}
 use Rattle.transcript_law.proofs.answers.Awaited.{idle_none}
 use Rattle.vbucket.specs.{DurableLaws.{IsQuiet}, Laws.{IsTimely}, Settles.{IsSettled}}
 
@@ -31,6 +31,7 @@ quiet_leaves vb (Streams c streams said is) q s w i = i
 quiet_leaves vb (Adopts log f) q s w i = i
 quiet_leaves vb (Marks start end f fits) q s w i = i
 quiet_leaves vb (Seals was) q s w i = i
+quiet_leaves vb Trims q s w i = i
 quiet_leaves vb (Flushes x e) q s w i = i
 quiet_leaves vb (Writes write clock free) q s w i = absurd q
 quiet_leaves vb (Receives c a f next is) q s w i = absurd (idle_none vb w s f i)

@@ -13,11 +13,10 @@ use Rattle.vb_calls.specs.declared.journals.Rolled.{Rolled}
 use Rattle.vb_calls.specs.declared.journals.Rolled.TheVariants as rolled
 use Rattle.vb_calls.specs.declared.calls.VbAnswer.{VbAnswer}
 use Rattle.vb_calls.specs.declared.calls.VbAnswer.TheVariants as answer
-use Rattle.vb_calls.specs.declared.calls.VbCall.TheVariants as call
 use Rattle.vb_calls.specs.declared.calls.VbReply.{VbReply}
 use Rattle.vb_calls.specs.Flushes.{roll_job}
 use Rattle.vb_calls.specs.Jobs.{Job, Ended, Call as CallJob, Request, each_job, lift, after_job, AlwaysJob}
-use Rattle.vb_calls.specs.Programs.{Prog, Done, Call, AnyReply, AnyCall, Always, after}
+use Rattle.vb_calls.specs.Programs.{AnyReply, AnyCall, Always, after}
 use Rattle.vb_calls.specs.Shelves.{Ask, Shelves}
 use Rattle.vb_calls.specs.States.{States}
 use Rattle.vb_calls.proofs.Conduct.{after_always}
@@ -28,8 +27,9 @@ use Rattle.dcp_consumer.specs.declared.passive_stream.Passive.{Passive}
 use Rattle.dcp_consumer.specs.declared.passive_stream.Passive.TheVariants as passive
 use Rattle.transcript_law.proofs.lines.Calm.{state_always}
 use Rattle.dcp_consumer.specs.Counting.{counted_bytes, bytes_acknowledged}
-use Rattle.dcp_consumer.specs.Machine.{over_why, consumer_step, is_streaming, may_acknowledge}
-use Rattle.node_core.specs.Dials.{PlainDial, DialResult, untold, with_consumer, with_line, over_for, granted_with, is_done, adopt_result, acknowledged_result, saved_of_reply, due_of_reply, due_met, due_requested, go_on_with, follower_ask, again_result, rolled_line, rolled_back, roll_back, taken_as, message_result, call_made, passive_made, step_made, frame_taken, frames_taken, with_left, fault_met, is_over, bytes_counted, is_broken, with_end_line, rest_met, bytes_taken, dial_bytes, dial_due}
+use Rattle.dcp_consumer.specs.Machine.{over_why, consumer_step}
+use Rattle.node_core.proofs.Dues.{due_always}
+use Rattle.node_core.specs.Dials.{PlainDial, DialResult, untold, with_consumer, with_line, over_for, granted_with, is_done, adopt_result, acknowledged_result, due_requested, go_on_with, follower_ask, again_result, rolled_line, rolled_back, roll_back, taken_as, message_result, call_made, passive_made, step_made, frame_taken, frames_taken, with_left, fault_met, is_over, bytes_counted, is_broken, with_end_line, rest_met, bytes_taken, dial_bytes, dial_due}
 
 abbrev AnyAsk : ℕ → Ask → Type 0
 AnyAsk v ask = Unit {0}
@@ -51,19 +51,8 @@ module _ (left : List ℕ) where
   either_keeps true s t first second = first
   either_keeps false s t first second = second
 
-  either_always : (b : Bool) (p q : Prog DialResult) → Always AnyCall Keeps p → Always AnyCall Keeps q → Always AnyCall Keeps (if b then p else q)
-  either_always true p q first second = first
-  either_always false p q first second = second
-
-  met_keeps : (s : DialResult) (seq : ℕ) → Keeps s → Always AnyCall Keeps (due_met s seq)
-  met_keeps s seq kept =
-      either_always (may_acknowledge seq s.dial.consumer) (Call s.dial.consumer.dialed.vb call.Stat (λ reply. Done (acknowledged_result seq s (saved_of_reply reply)))) (Done s) (tt, λ reply any. kept) kept
-
   due_keeps : (s : DialResult) → Keeps s → Always AnyCall Keeps (due_requested s)
-  unfolding due_requested
-  due_keeps s kept =
-      either_always (is_streaming s.dial.consumer.handshake) (Call s.dial.consumer.dialed.vb call.Due (λ reply. due_met s (due_of_reply reply))) (Done s)
-      (tt, λ reply any. met_keeps s (due_of_reply reply) kept) kept
+  due_keeps s kept = due_always Keeps s (λ seq saved. kept) kept AnyCall tt
 
   log_keeps : (s : DialResult) (log : List LogEntry) → Keeps s → Always AnyCall Keeps (go_on_with log s)
   unfolding go_on_with
@@ -139,20 +128,8 @@ heard_left piece dial states shelves =
 abbrev pub Dued : PlainDial → DialResult → Type 0
 Dued dial t = (t ≡ untold dial) ⊎ ((seq : ℕ) × (saved : ℕ) × (t ≡ acknowledged_result seq (untold dial) saved))
 
-either_dued : (dial : PlainDial) (b : Bool) (p q : Prog DialResult) → Always AnyCall (Dued dial) p → Always AnyCall (Dued dial) q → Always AnyCall (Dued dial) (if b then p else q)
-either_dued dial true p q first second = first
-either_dued dial false p q first second = second
-
 always_dued : (dial : PlainDial) → Always AnyCall (Dued dial) (dial_due dial)
-unfolding due_requested
-always_dued dial =
-    let s : DialResult = untold dial in
-    either_dued dial (is_streaming dial.consumer.handshake) (Call dial.consumer.dialed.vb call.Due (λ reply. due_met s (due_of_reply reply))) (Done s) (
-      tt,
-      λ reply any. either_dued dial (may_acknowledge (due_of_reply reply) dial.consumer) (Call dial.consumer.dialed.vb call.Stat (λ more. Done (acknowledged_result (due_of_reply reply) s (saved_of_reply more)))) (Done s)
-          (tt, λ more any. inr (due_of_reply reply, saved_of_reply more, refl)) (inl refl),
-    )
-    (inl refl)
+always_dued dial = due_always (Dued dial) (untold dial) (λ seq saved. inr (seq, saved, refl)) (inl refl) AnyCall tt
 
 pub dued : (dial : PlainDial) (states : States) → Dued dial (after (dial_due dial) states).1
 dued dial states = after_always AnyCall (Dued dial) (dial_due dial) states (always_dued dial)

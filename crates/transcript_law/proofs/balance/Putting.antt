@@ -30,6 +30,7 @@ use Rattle.dcp_producer.specs.declared.next_frame.NextFrame.TheVariants as next
 use Rattle.takeover.specs.GivingUp.{done}
 use Rattle.takeover.specs.declared.give_up.{GiveStep.{GiveStep}, GiveUp.{GiveUp}}
 use Rattle.vb_types.specs.declared.role.Role.{Role}
+use Rattle.dcp_producer.specs.Firsts.{start_sent}
 use Rattle.dcp_producer.specs.Frames.{Next, STATE_CHANGED, act_message, alive_next, none_next, role_of, state_next, step_next, close_sent, marker_flags, next_by, next_frame, over, place_requested, place_said, placed_next, reaches_end, take_answered, taken_next}
 use Rattle.dcp_producer.specs.Producers.{PlainStream, Served}
 use Rattle.dcp_producer.specs.Pulling.{Pulling, frame_put, none_quiet, one_frame, pull_of}
@@ -102,7 +103,7 @@ module _ (name : StreamName) (stream : PlainStream) (fits : StreamFits stream) w
   none_is (Some g) = state_is (done g) (role_of (done g).step)
 
   marker_is : (x : Snapshot) → NextIs (taken_next name stream (answer.Taken x))
-  marker_is x = (marker_readable x.start x.end (marker_flags x.disk), (messages (msg.SnapshotMarker x.start x.end (marker_flags x.disk)) stream.opaque stream.vb).1 tt)
+  marker_is x = let start : ℕ = start_sent stream.marked stream.first x.start in (marker_readable start x.end (marker_flags x.disk), (messages (msg.SnapshotMarker start x.end (marker_flags x.disk)) stream.opaque stream.vb).1 tt)
 
   take_is : (reply : Option VbReply) → NextIs (take_answered name stream reply)
   take_is None = end_is STATE_CHANGED

@@ -1,9 +1,9 @@
 -- lines that append a record, each with what it has come to; and what is told of a node that starts
 use Rattle.std.specs.Prelude.{◌++◌, ◌∷◌, ◌≡◌, ◌⊎◌, if◌then◌else◌, option_map}
-use Rattle.transcript_law.proofs.Words.{ℕ, Bool, true, false, List, [], length, refl, ap, sym, ◌∙◌, subst, inl, inr, ⊎_elim, Option, Some, None, is_some, Answer, Cause, Event, Role, Told, Plain, plain_step, States, VbCall, VbReply, call_at, with_vb_at, Ended, after_job, after_job_bind, shelf_in, vb_in}
+use Rattle.transcript_law.proofs.Words.{ℕ, Bool, true, false, List, [], length, refl, ap, sym, ◌∙◌, subst, inl, inr, ⊎_elim, Option, Some, None, is_some, Answer, Cause, Event, Role, Told, Plain, plain_step, States, VbCall, VbReply, with_vb_at, Ended, after_job, after_job_bind, shelf_in, vb_in}
 use Rattle.transcript_law.proofs.Words.{PlainNode, PlainWorld, AdminCall, admin_call, admin_replied, role_outcome, promote_causes, turn_causes, promote_step, turn_step, done, first_cause, on_node, refusal, refused_or, replica_at, vb_at, with_node_at, EndsWith, IsPromotion, IsTurn}
 use Rattle.disk_journals.specs.{Arms.{arm_over, fuse_at, opens_all}, Books.{Book}}
-use Rattle.node_core.specs.{Admin.{admin_job, noted_answer, role_at}, Flushing.{FlushResult, flush_if, flush_result}, Loading.{are_short, start_result, starts_of}}
+use Rattle.node_core.specs.{Admin.{admin_job, noted_answer, role_at}, Flushing.{FlushResult, flush_at, flush_result}, Loading.{are_short, start_result, starts_of}}
 use Rattle.node_world.specs.{Arms.{fired_by, fuse_or, lifted, placed}, Nodes.{all_posted, limit_causes, save_line, shelf_or_blank, uuid_causes, vb_made, with_disk, with_kept, with_posts, written as written_node}, Rests.{Rests, RestsIf}, Worlds.{arm_in, on_made}}
 use Rattle.node_world.specs.Power.{burnt_arm, first_no, loaded_node, not_opened, opened_at, opening_told, start_at, start_call, start_causes, start_if, start_one, start_step, started_by, starts_from}
 use Rattle.node_world.specs.declared.arm.Fired.{Fired}
@@ -88,7 +88,7 @@ save_line_came closed w n v rests shut = on_node_by (AppendCame NoLines closed w
     by : (node : PlainNode) → w.nodes n ≡ Some node → (o : Option Plain) → node.vbs v ≡ o → AppendCame NoLines closed w n (with_node_at w n (save_line n v node).0, (save_line n v node).1)
     by node known None e =
         let armed : Shelves = arm_over node.shelves v node.arm.fuse in
-        subst (λ y. AppendCame NoLines closed w n (node_came node y)) (ap (λ o. let y = call_at node.vbs v VbCall.Log o in after_job (flush_if n v part.Save (is_some y.1)) y.0 armed) (sym e))
+        subst (λ y. AppendCame NoLines closed w n (node_came node y)) (ap (λ (o : Option Plain). after_job (flush_at n v part.Save (is_some o)) node.vbs armed) (sym e))
         (refused_came NoLines closed w n (with_node_at w n (lifted v (placed v node))) Cause.UnknownVb tt (here node known))
     by node known (Some vb) e =
         let armed : Shelves = arm_over node.shelves v node.arm.fuse in let st : States = with_vb_at node.vbs v vb in

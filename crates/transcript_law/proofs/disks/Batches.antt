@@ -44,4 +44,4 @@ span_found n (y ∷ ys) x e = by (nat_lt n y.last) refl e (span_found n ys x)
 
 -- a vBucket of which more counts as saved is sound as it was
 pub saved_sound : (vb : Plain) (saved : ℕ) → Sound vb → vb.floor ≤ saved → Sound (record vb { saved = saved })
-saved_sound vb saved s l = record { spanned = s.spanned; placed = s.placed; stamped = s.stamped; based = s.based; saved = l; counted = s.counted }
+saved_sound vb saved s l = record { spanned = s.spanned; placed = s.placed; stamped = s.stamped; based = s.based; saved = l; counted = s.counted; feeds = s.feeds }

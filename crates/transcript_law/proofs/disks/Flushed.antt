@@ -1,8 +1,9 @@
 -- what a step of writing a vBucket down comes to, and how its line is answered
 use Rattle.std.specs.Prelude.{◌≡◌, ◌∷◌, ◌==◌, if◌then◌else◌}
-use Rattle.transcript_law.proofs.Words.{ℕ, Bool, true, false, List, [], length, refl, ap, sym, ◌∙◌, subst, Option, Some, None, is_some, eqb-true, Answer, Cause, Event, Plain, States, with_vb_at, VbCall, VbAnswer, Span, Ended, after_job, after_job_bind, plain_step, quiet_reply}
+use Rattle.transcript_law.proofs.Words.{ℕ, Bool, true, false, List, [], length, refl, ap, sym, ◌∙◌, subst, Option, Some, None, is_some, eqb-true, Answer, Cause, Event, Plain, States, with_vb_at, VbCall, Span, Ended, after_job, after_job_bind, plain_step}
 use Rattle.transcript_law.proofs.invariant.JobSteps.{call_on}
-use Rattle.{node_core.specs.Flushing.{flush_at, flush_if, flush_result, took_result}, std.specs.Prelude.{max}, transcript_law.specs.Chronicles.{DiskKnown, Flushing, known_batch}, transcript_law.specs.LineAnswers.{IsAppended, IsSaved, IsTaken}, transcript_law.specs.Plainness.{IsStanding}}
+use Rattle.transcript_law.proofs.verbs.NodeLines.{put_same as put_states}
+use Rattle.{node_core.specs.Flushing.{flush_at, flush_result, took_result}, std.specs.Prelude.{max}, transcript_law.specs.Chronicles.{DiskKnown, Flushing, known_batch}, transcript_law.specs.LineAnswers.{IsAppended, IsSaved, IsTaken}, transcript_law.specs.Plainness.{IsStanding}}
 use Rattle.vb_calls.specs.Flushes.{appended_job, finish_job, flush_job, part_job, save_job, take_job, taken_job, took, batch_of_reply}
 use Rattle.vb_calls.specs.Flushing.{batch_of, flush_from, unflushed_span}
 use Rattle.vb_calls.specs.Shelves.{Append, Fate, Stood, WasClosed, DiskFailed, Flush, Idle, Out, Written, Keep, Look, Shelf, Shelves, ask_at, shelves_step}
@@ -15,10 +16,12 @@ abbrev pub looked : Shelves → ℕ → Option Shelf → Shelves × Flush
 looked shelves v o = ask_at shelves v Look o
 
 pub flush_came : (n v : ℕ) (p : FlushPart) (states : States) (shelves : Shelves) (vb : Plain) (o : Option Shelf) → states v ≡ Some vb → shelves v ≡ o
-    → after_job (flush_at n v p) states shelves ≡ (let y = after_job (part_job v p (looked shelves v o).1) (with_vb_at states v vb) (looked shelves v o).0 in (y.0, flush_result n v y.1))
+    → after_job (flush_at n v p (is_some (states v))) states shelves ≡ (let y = after_job (part_job v p (looked shelves v o).1) (with_vb_at states v vb) (looked shelves v o).0 in (y.0, flush_result n v y.1))
 unfolding flush_job
 flush_came n v p states shelves vb o known is =
-    call_on states shelves v VbCall.Log (λ reply. flush_if n v p (is_some reply)) vb vb (quiet_reply (VbAnswer.Logged vb.log)) known refl
+    let same : with_vb_at states v vb ≡ states = (λ i q. put_states states v vb known q i) in
+    ap (λ (s : Option Plain). after_job (flush_at n v p (is_some s)) states shelves) known
+    ∙ ap (λ (st : States). after_job (flush_at n v p true) st shelves) (sym same)
     ∙ after_job_bind (flush_job v p) (λ came. Ended (flush_result n v came)) (with_vb_at states v vb) shelves
     ∙ ap (λ o. let x = ask_at shelves v Look o in let y = after_job (part_job v p x.1) (with_vb_at states v vb) x.0 in (y.0, flush_result n v y.1)) is
 

@@ -276,7 +276,7 @@ module _ (w : PlainWorld) (n c : ℕ) (node : PlainNode) (r : Chronicle) (f : Fr
           count = sym (counts true open_it);
           short = few_short pv.log (short_at pv there);
           step = step_at w n c node states st (Some (was w n c node r f states lines client up ask asks)) (Some client') v id pv pv' there (put_here states v pv') (λ q other. put_there states v pv' q other)
-              (opened_changes pv id ask sync at.sound) (free_own w n c node before_it (agrees w n c node r f states lines client up).differ v id nobody);
+              (opened_changes pv id ask sync active free at.sound) (free_own w n c node before_it (agrees w n c node r f states lines client up).differ v id nobody);
           opens = λ q j has. ⊎_elim (λ had. inl had) (λ o. inr (subst (λ x. IsFree j (vb_of before_it n x)) o.0 (subst (λ y. IsFree y (vb_of before_it n v)) o.1 free_there))) (open_opened q j stream p.streams has);
           desk = refl;
           shaken = refl;

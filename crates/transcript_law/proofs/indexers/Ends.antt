@@ -11,6 +11,7 @@ use Rattle.dcp_producer.specs.declared.desk.Desk.{Desk}
 use Rattle.flow_control.specs.Windows.{is_open as lets_through}
 use Rattle.node_core.specs.Clients.{PlainClient}
 use Rattle.transcript_law.proofs.indexers.{Framed.{SoFar, TurnSoFar, client_of, mine, over_agrees, put_more, read, still_open, still_through, world_of}, Marked.{reaches_so, whole_put}, Owning.{IsKnown, stream_known, with_streams}, Replacing.{replaced_same}, Replied.{end_short, end_vb, header_is, put_is}, Steps.{ClientStep}, Streams.{among_without, closed_there}, Worlds.{client_here, open_own, step_at, step_quiet, vb_here, world_with}}
+use Rattle.vbucket.proofs.Fed.{feeds_closed}
 use Rattle.transcript_law.proofs.invariant.{Agreement.{AgreesAt, VbAgrees, vb_of}, Carried.{sound_streams}, Carrying.{StreamsChanged}, ClientsKept.{among_open}, ClientsTold.{IsOpenFor}, OpenStreams.{Among}, Seats.{seat}}
 use Rattle.transcript_law.specs.{ClientFrames.{is_closed_by}, LawfulClients.{EndsAs, LawfulClientEnd}, Questions.{flow_now, served_frames}, StreamsTold.{ClientKnown, ClientStream, StreamLine}}
 use Rattle.vb_calls.specs.States.{call_at}
@@ -117,6 +118,6 @@ module _ (w : PlainWorld) (r : Chronicle) (cl : Cluster) (n c : ℕ) (node : Pla
         let is : after (close_sent t) states ≡ (states', over ALL_SENT t) = ap (λ o. ((call_at states t.vb (CloseStream t.id) o).0, over ALL_SENT t)) has in
         subst Comes (sym is)
         (over_turn ALL_SENT states'
-        (moved_step p' (Some (client_of w r cl n c node session (end_put t ALL_SENT (stream_went t s)))) states' (record { sound = sound_streams opens.vb p'.streams vb_agrees.sound; alone = refl; others = λ x ne. without_there t.id x opens.vb.streams ne })
+        (moved_step p' (Some (client_of w r cl n c node session (end_put t ALL_SENT (stream_went t s)))) states' (record { sound = sound_streams opens.vb p'.streams vb_agrees.sound (feeds_closed opens.vb.role opens.vb.floor t.id opens.vb.streams vb_agrees.sound.feeds); alone = refl; others = λ x ne. without_there t.id x opens.vb.streams ne })
         (ap (λ b. if b then Some p' else states t.vb) (eq-eqb t.vb t.vb refl)) there)
         there whole (subst (λ b. EndsAs b known.g ALL_SENT) (sym going ∙ si.ended) (refl, reaches_so known.g (here.held n t.vb) known.g.last t si.until si.begun reached)))

@@ -3,6 +3,8 @@ use Rattle.std.specs.Prelude.{◌≡◌, ◌<◌, ◌≤◌, ◌∷◌, ◌++◌
 use Rattle.branch_model.proofs.Ruling.{continue_top, upper_le}
 use Rattle.branch_model.specs.Logs.{Falls, IsFront}
 use Rattle.transcript_law.proofs.Words.{ℕ, Bool, true, false, List, [], length, refl, sym, ap, ◌∙◌, subst, arith, nat_tests, and_parts, eq-eqb, ne_eqb, eqb-false, eqb-true, All-nil, find-append, option_or, Option, Some, None, Status, LogEntry, StreamAsk, Change, Continue, rule, effective_se, effective_ss, front, uuid_of, Cluster, Plain, Stream, Sound, is_active, stream_at, new_stream, open_refusal, is_ranged, id_refusal, first_reason, Frame, PlainStream, Chronicle}
+use Rattle.std.proofs.lemmas.Bool.{leb-true}
+use Rattle.vbucket.proofs.Fed.{feeds_opened}
 use Rattle.dcp_producer.specs.Serving.{gives_of, new_stream as kept_stream}
 use Rattle.transcript_law.proofs.invariant.{Agreement.{VbAgrees, top}, Bounded.{SoundCluster}, Carried.{sound_streams}, Carrying.{StreamsChanged}, ClientsTold.{PlaceIs, StreamIs}, Holdings.{ChangeFits, IsWriterIf}}
 use Rattle.transcript_law.specs.{ClientFrames.{Request, is_sync}, ClientStreams.{new_stream as known_stream, stream_view}, StreamsTold.{ClientStream, Setup}}
@@ -12,22 +14,22 @@ use Rattle.transcript_law.specs.{ClientFrames.{Request, is_sync}, ClientStreams.
 module _ (pv : Plain) (id : ℕ) (ask : StreamAsk) (sync : Bool) where
   -- the vBucket with the stream
   abbrev pub opened : Plain
-  opened = record pv { streams = pv.streams ++ new_stream id ask sync ∷ [] }
+  opened = record pv { streams = pv.streams ++ new_stream pv id ask sync ∷ [] }
 
-  pub opened_here : stream_at id pv.streams ≡ None → stream_at id opened.streams ≡ Some (new_stream id ask sync)
+  pub opened_here : stream_at id pv.streams ≡ None → stream_at id opened.streams ≡ Some (new_stream pv id ask sync)
   opened_here free =
-      find-append (λ (s : Stream). s.id == id) pv.streams (new_stream id ask sync ∷ [])
-      ∙ ap (λ y. option_or y (if id == id then Some (new_stream id ask sync) else None)) free
-      ∙ ap (λ b. if b then Some (new_stream id ask sync) else None) (eq-eqb id id refl)
+      find-append (λ (s : Stream). s.id == id) pv.streams (new_stream pv id ask sync ∷ [])
+      ∙ ap (λ y. option_or y (if id == id then Some (new_stream pv id ask sync) else None)) free
+      ∙ ap (λ b. if b then Some (new_stream pv id ask sync) else None) (eq-eqb id id refl)
 
   -- and no other stream changed
-  pub opened_changes : Sound pv → StreamsChanged id pv opened
-  opened_changes sound = record {
-    sound = sound_streams pv opened.streams sound;
+  pub opened_changes : is_active pv.role ≡ true → stream_at id pv.streams ≡ None → Sound pv → StreamsChanged id pv opened
+  opened_changes active free sound = record {
+    sound = sound_streams pv opened.streams sound (feeds_opened pv.role pv.floor pv.streams (new_stream pv id ask sync) active sound.feeds free (leb-true pv.floor ask.start));
     alone = refl;
     others = λ x ne.
-        find-append (λ (s : Stream). s.id == x) pv.streams (new_stream id ask sync ∷ [])
-        ∙ ap (λ b. option_or (stream_at x pv.streams) (if b then Some (new_stream id ask sync) else None)) (ne_eqb id x (λ e. ne (sym e)))
+        find-append (λ (s : Stream). s.id == x) pv.streams (new_stream pv id ask sync ∷ [])
+        ∙ ap (λ b. option_or (stream_at x pv.streams) (if b then Some (new_stream pv id ask sync) else None)) (ne_eqb id x (λ e. ne (sym e)))
         ∙ elim (stream_at x pv.streams) as (λ o. option_or o None ≡ o) [ None ↦ refl | Some s ↦ refl ];
   }
 
@@ -110,6 +112,7 @@ module _ (r : Chronicle) (k : Cluster) (sound : SoundCluster top k) (n v p : ℕ
       opaque = refl;
       small = small;
       until = refl;
+      first = refl;
       over = refl;
       ended = refl;
       gives = ap gives_of plain;
@@ -122,7 +125,7 @@ module _ (r : Chronicle) (k : Cluster) (sound : SoundCluster top k) (n v p : ℕ
         there = there;
         active = active;
         branch = on_branch;
-        stream = new_stream id ask sync;
+        stream = new_stream pv id ask sync;
         opened = opened_here pv id ask sync free;
         ask = refl;
         sync = syncs;

@@ -10,7 +10,7 @@ use Rattle.flow_control.specs.Windows.{is_open as lets_through}
 use Rattle.transcript_law.proofs.indexers.{Framed.{SoFar, TurnSoFar, client_of, mine, put_more, read, still_open, still_through, went_agrees, world_of}, Owning.{IsKnown, stream_known}, Replacing.{at_there_replaced, others_replaced}, Replied.{header_is, item_short, item_vb, put_is}, Worlds.{step_quiet, vb_here}}
 use Rattle.transcript_law.proofs.invariant.{Agreement.{ChangeFits, vb_of}, ClientsTold.{BegunIs, IsOpenFor, StartedAt, StreamIs}, OpenStreams.{Among}}
 use Rattle.transcript_law.proofs.links.{Putting.{next_item_of}, Sent.{all_found, found_below, take_found}}
-use Rattle.transcript_law.specs.{ClientFrames.{is_closed_by}, ClientStreams.{held_for, with_sent}, Questions.{flow_now, served_frames}, LawfulClients.{IsSentOf, LawfulClientItem}, StreamLaws.{line_act}, StreamsTold.{ClientKnown, ClientStream, StreamLine}, ClientStreams.{vb_in_header}}
+use Rattle.transcript_law.specs.{ClientFrames.{is_closed_by}, ClientStreams.{held_for, with_sent}, Questions.{flow_now, served_frames}, LawfulClients.{IsSentOf, LawfulClientItem}, StreamLaws.{IsUnreplaced, line_act}, StreamsTold.{ClientKnown, ClientStream, StreamLine}, ClientStreams.{vb_in_header}}
 use Rattle.vb_events.specs.declared.event.Event.TheVariants as event
 use Rattle.vb_events.specs.declared.event.StreamName.TheVariants as name
 use Rattle.vb_types.specs.declared.change.Act.{Act}
@@ -52,6 +52,7 @@ module _ (tree : List Branch) (on : Option ℕ) (held : List Change) (pv : Optio
     ap (λ ys. ys ++ item_of_change x ∷ []) begun.1 ∙ sym (map-append item_of_change (take t.next t.items) (x ∷ [])) ∙ ap (map item_of_change) (sym (take_found t.items t.next x e)),
     begun.2,
     begun.3,
+    begun.4,
   )
 
   open_more : IsOpenFor tree on g t.id pv → IsOpenFor tree on g' t.id pv
@@ -74,6 +75,7 @@ module _ (tree : List Branch) (on : Option ℕ) (held : List Change) (pv : Optio
     opaque = si.opaque;
     small = si.small;
     until = si.until;
+    first = si.first;
     over = si.over;
     ended = si.ended;
     gives = si.gives;
@@ -105,7 +107,8 @@ module _ (r : Chronicle) (n c : ℕ) (known : ClientKnown) (pv : Option Plain) (
             held =
                 let sent : IsSentOf g b (held_for g (r.held n t.vb)) x = all_found (IsSentOf g b (held_for g (r.held n t.vb))) t.items t.next x begun.3 e in
                 subst (λ (y : ClientStream). IsSentOf y b (held_for y (r.held n (vb_in_header p.bytes))) x) (sym is) (subst (λ v. IsSentOf g b (held_for g (r.held n v)) x) (sym at) sent);
-            next = next_item_of b t x (begun.0, begun.1) e;
+            next = next_item_of b t x (begun.0, begun.1, begun.4) e;
+            unreplaced = λ d. all_found (IsUnreplaced b.history b.end) t.items t.next x (begun.4 d) e;
           }
 
 -- ---- its turn

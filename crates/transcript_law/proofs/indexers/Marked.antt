@@ -1,6 +1,6 @@
 -- the marker of a client's stream is lawful, and the stream behind it is the one that is known
 use Rattle.std.specs.Prelude.{◌≡◌, ◌<◌, ◌≤◌, ◌&&◌, nat_le, if◌then◌else◌}
-use Rattle.transcript_law.proofs.Words.{ℕ, Bool, true, false, not, StandsAs, List, [], length, map, refl, ap, sym, ◌∙◌, subst, arith, nat_tests, append-nil, inl, inr, Option, Some, None, All, Begun, Change, Chronicle, Cluster, Covers, IsIn, IsOf, IsWholeIf, Plain, PlainStream, PlainWorld, Snapshot, item_of_change}
+use Rattle.transcript_law.proofs.Words.{is_some, ℕ, Bool, true, false, not, StandsAs, List, [], length, map, refl, ap, sym, ◌∙◌, subst, arith, nat_tests, append-nil, inl, inr, Option, Some, None, All, Begun, Change, Chronicle, Cluster, Covers, IsIn, IsOf, IsWholeIf, Plain, PlainStream, PlainWorld, Snapshot, item_of_change}
 use Rattle.branch_model.proofs.Lists.{in_right}
 use Rattle.dcp_producer.specs.Frames.{reaches_end, with_snapshot}
 use Rattle.std.proofs.lemmas.List.{take_all}
@@ -9,8 +9,8 @@ use Rattle.transcript_law.proofs.invariant.Agreement.{AgreesIn, ChangeFits, idle
 use Rattle.transcript_law.proofs.invariant.ClientsTold.{BegunIs, IsOpenFor, PlaceIs, StartedAt, StreamIs}
 use Rattle.transcript_law.proofs.links.{Marking.{moved_here, moved_stream, moved_vb}, Sent.{all_by_each, fits_of}}
 use Rattle.transcript_law.specs.ClientStreams.{stream_view, with_mark}
-use Rattle.transcript_law.specs.LawfulClients.{GoesOnAt, IsNextMarker, IsSentOf, NoneWithin, ReachesFor, ReachesMeant, ReachedBy, StartsAt, starts_below}
-use Rattle.transcript_law.specs.StreamLaws.{meant_end}
+use Rattle.transcript_law.specs.LawfulClients.{GoesOnAt, IsNextMarker, IsSentOf, NoneWithin, ReachesFor, ReachesMeant, ReachedBy, StartsAt, writes_out}
+use Rattle.transcript_law.specs.StreamLaws.{FROM_MEMORY, meant_end}
 use Rattle.transcript_law.specs.StreamsTold.{ClientStream}
 use Rattle.vb_types.specs.Histories.{plain}
 use Rattle.vbucket.specs.Takes.{IsSentFor, IsSnapshot}
@@ -41,6 +41,11 @@ whole_put g held (Some b) stream begun whole = record {
   covers = begun.0;
   front = sym (append-nil b.items ∙ begun.1 ∙ ap (map item_of_change) (take_all stream.next stream.items whole));
 }
+
+-- a marker was sent exactly where one is known
+pub begun_marked : (g : ClientStream) (held : List Change) (last : Option Begun) (stream : PlainStream) → BegunIs g held last stream → is_some stream.marked ≡ is_some last
+begun_marked g held None stream begun = ap is_some begun.1
+begun_marked g held (Some b) stream begun = ap is_some begun.2
 
 -- the end that was asked for is reached exactly where the producer says so
 pub reached_is : (g : ClientStream) (held : List Change) (last : Option Begun) (stream : PlainStream) → stream.until ≡ g.ask.end → BegunIs g held last stream → (b : Bool) → reaches_end stream.until stream.marked ≡ b → ReachedBy g.ask.end last → b ≡ true
@@ -102,17 +107,17 @@ module _ (w : PlainWorld) (r : Chronicle) (cl : Cluster) (a : AgreesIn idle w r 
   -- ---- the stream behind it
 
   abbrev pub begun : Begun
-  begun = record { history = h; from = g.place; end = end; items = [] }
+  begun = record { history = h; from = g.place; end = end; disk = false; items = [] }
 
   sent : (y : Change) → IsIn y items → IsSentOf g begun (r.held n v) y
   sent y i =
       let (c, there, f) = is.sent y i in
       let vb = agrees w r cl a n v g stream.id x in
       let held : IsIn c (r.held n v) = subst (IsIn c) (sym (vb.held ∙ vb.parts)) (in_right c vb.below x.vb.held there) in
-      (c, held, sent_so g o x.ask x.sync x.taken si.started begun refl c y (subst (λ k. IsSentFor o k c y) is.starts f))
+      (c, held, sent_so g o x.ask x.sync x.taken si.started begun refl refl c y (subst (λ k. IsSentFor o k c y) is.starts f))
 
   of_held : (y : Change) → IsIn y items → IsOf (r.held n v) y
-  of_held y i = let (c, there, e) = sent y i in (c, there, either (g.sync && not (starts_below g begun)) c y e)
+  of_held y i = let (c, there, e) = sent y i in (c, there, either (g.sync && not (writes_out g begun)) c y e)
     where
       either : (b : Bool) (c y : Change) → y ≡ (if b then c else plain c) → StandsAs y c
       either true c y e = inl e
@@ -130,18 +135,19 @@ module _ (w : PlainWorld) (r : Chronicle) (cl : Cluster) (a : AgreesIn idle w r 
   abbrev pub moved : Plain
   moved = moved_vb x.vb stream.id stop
 
-  pub marked_stream : stream.ended ≡ false → StreamIs r.tree (r.branch_at n v) (r.held n v) (Some moved) (with_mark r.tree end g) (with_snapshot stream snapshot)
+  pub marked_stream : stream.ended ≡ false → StreamIs r.tree (r.branch_at n v) (r.held n v) (Some moved) (with_mark r.tree end FROM_MEMORY g) (with_snapshot stream snapshot)
   marked_stream going = record {
     opaque = si.opaque;
     small = si.small;
     until = si.until;
+    first = si.first;
     over = si.over;
     ended = si.ended;
     gives = si.gives;
     fits = fit;
     next_in = omega arith;
     started = above_start g.last si.started;
-    begun = (covers, refl, refl, subst (λ b. All (IsSentOf g begun (if b then g.left else r.held n v)) items) (sym (sym si.ended ∙ going)) (all_by_each (IsSentOf g begun (r.held n v)) items sent));
+    begun = (covers, refl, refl, subst (λ b. All (IsSentOf g begun (if b then g.left else r.held n v)) items) (sym (sym si.ended ∙ going)) (all_by_each (IsSentOf g begun (r.held n v)) items sent), λ d. let z : false ≡ true = d in cc);
     opens = λ going. record {
       vb = moved;
       there = refl;

@@ -8,6 +8,7 @@ use Rattle.mcbp_dcp.specs.declared.message.DcpMsg.TheVariants as msg
 use Rattle.node_core.specs.Clients.{PlainClient, delivered}
 use Rattle.transcript_law.proofs.indexers.{Hands.{Goes, HandedUp}, Moments.{close_none, close_some}, Passing.{FitsNow, agrees, asks_in_hand, before, behind, cluster, hand, is_behind, kept_as, own, passed_step, so_far, stream as stream_now}, Setting.{open_as}, Quiet.{put_here, put_there}}
 use Rattle.transcript_law.proofs.indexers.{Serving.{served_close}, Steps.{ClientStep}, Streams.{among_without, closed_here, closed_there, found_is, none_at, one_closed, open_without}, Worlds.{client_here, open_own, step_at, step_quiet, vb_here, world_with}}
+use Rattle.vbucket.proofs.Fed.{feeds_closed}
 use Rattle.transcript_law.proofs.invariant.{Agreement.{AgreesAt, VbAgrees}, Carried.{sound_streams}, Carrying.{StreamsChanged}, ClientsKept.{found_open, open_known}, ClientsTold.{ClientAgrees, KeptIs, setup_of}, Holdings.{vb_of}, OpenStreams.{kept_over}, Seats.{seat}}
 use Rattle.transcript_law.proofs.{answers.Messages.{close_answer_to}, answers.Statuses.{alone_as, once_open}, links.Cutting.{closed_others}}
 use Rattle.transcript_law.specs.{ClientFrames.{ask_by, ask_of, is_close, is_closed_by, message_of, set_by}, Feeding.{HasFed, HasOpen}, LawfulMessages.{close_status}, Questions.{window_by}, StreamsTold.{ClientStream}}
@@ -119,7 +120,7 @@ module _ (w : PlainWorld) (n c : ℕ) (node : PlainNode) (r : Chronicle) (f : Fr
         let st : States = with_vb_at states v pv' in
         let agrees_there : VbAgrees (so_far w n c node r f states lines client up) n v ((cluster w n c node r f states lines client up).nodes (seat n v)) pv
         = subst (AgreesAt (so_far w n c node r f states lines client up) n v ((cluster w n c node r f states lines client up).nodes (seat n v))) opens.there ((agrees w n c node r f states lines client up).vbs n v) in
-        let changed : StreamsChanged stream.id pv pv' = record { sound = sound_streams pv pv'.streams agrees_there.sound; alone = refl; others = λ k ne. closed_others stream.id k pv.streams ne } in
+        let changed : StreamsChanged stream.id pv pv' = record { sound = sound_streams pv pv'.streams agrees_there.sound (feeds_closed pv.role pv.floor stream.id pv.streams agrees_there.sound.feeds); alone = refl; others = λ k ne. closed_others stream.id k pv.streams ne } in
         let fed : HasFed old (name.Client n c) n v stream.id = (refl, (before w n c node r f states lines client up, client_here w n c node states (Some (before w n c node r f states lines client up)), has)) in
         subst Comes {x = (st, closed_sent f stream.id s)} (sym (ap (λ q. after (Call q (call.CloseStream stream.id) (λ reply. Done (closed_sent f stream.id s))) states) at
         ∙ ap (λ o. ((call_at states v (call.CloseStream stream.id) o).0, closed_sent f stream.id s)) there))

@@ -1,5 +1,5 @@
 -- what a snapshot of a client's stream sends for each change that its vBucket holds
-use Rattle.std.specs.Prelude.{◌≡◌, ◌<◌, ◌==◌, ◌&&◌, nat_lt, if◌then◌else◌}
+use Rattle.std.specs.Prelude.{◌≡◌, ◌<◌, ◌==◌, ◌&&◌, ◌||◌, nat_lt, if◌then◌else◌}
 use Rattle.transcript_law.proofs.Words.{ℕ, Bool, true, false, not, refl, ap, sym, ◌∙◌, subst, arith, nat_tests, inl, inr, Option, Some, None, is_some, and_parts, eqb-true, eq-eqb, Act, Begun, Change, Stream, StreamAsk, effective_ss, effective_se, need_of, start_of}
 use Rattle.std.proofs.lemmas.Bool.{and_from, lt-ltb}
 use Rattle.transcript_law.proofs.invariant.ClientsTold.{StartedAt}
@@ -70,6 +70,6 @@ module _ (g : ClientStream) (o : Stream) (ask : o.ask ≡ g.ask) (sync : o.sync 
         let low : meant_start g.ask < g.ask.start = grind (arith, nat_tests, parts.1) in
         inr (taken ∙ ap is_some none, omega (arith, s, k, low))
 
-    -- it is sent as it is to be sent
-    pub sent_so : (c x : Change) → IsSentFor o (start_of o) c x → x ≡ sent_in g b c
-    sent_so c x f = sent_by as_is o (start_of o) c x f whole_out (written g.sync refl (starts_below g b) refl)
+    -- it is sent as it is to be sent, from memory
+    pub sent_so : b.disk ≡ false → (c x : Change) → IsSentFor o (start_of o) c x → x ≡ sent_in g b c
+    sent_so memory c x f = sent_by as_is o (start_of o) c x f whole_out (written g.sync refl (starts_below g b) refl) ∙ ap (λ d. if g.sync && not (d || starts_below g b) then c else plain c) (sym memory)

@@ -4,6 +4,7 @@ use Rattle.transcript_law.proofs.Words.{with_at, ℕ, Bool, true, false, List, [
 unfoldable use Rattle.dcp_producer.specs.Ending.{end_closed}
 use Rattle.node_core.specs.Clients.{Handling, PlainClient}
 use Rattle.transcript_law.proofs.indexers.{Hands.{InHand, mine}, Quiet.{put_here, put_there}, Steps.{ClientStep, apart_less, client_carried, clients_told, fed_less, step_one}, Worlds.{client_here, free_own, step_at, step_quiet, vb_here, world_with}}
+use Rattle.vbucket.proofs.Fed.{feeds_closed}
 use Rattle.transcript_law.proofs.invariant.{Agreement.{Agrees, AgreesAt, VbAgrees}, Carried.{sound_streams}, Owed.{owed_gone}, Seats.{seat}, Tables.{at_there}}
 use Rattle.transcript_law.proofs.links.Cutting.{closed_others}
 use Rattle.transcript_law.specs.{ClientStreams.{blank_client}, Feeding.{HasFed, HasOpen, client_in}}
@@ -48,7 +49,7 @@ module _ (w : PlainWorld) (n c : ℕ) (node : PlainNode) (r : Chronicle) where
           let agrees : VbAgrees r n v (s.agrees.0.nodes (seat n v)) pv = subst (AgreesAt r n v (s.agrees.0.nodes (seat n v))) (vb_here w n c node states None v ∙ there) (s.agrees.1.vbs n v) in
           stepped streams states st
           (step_at w n c node states st None None v id pv pv' there (put_here states v pv') (λ q other. put_there states v pv' q other)
-          (record { sound = sound_streams pv pv'.streams agrees.sound; alone = refl; others = λ k ne. closed_others id k pv.streams ne })
+          (record { sound = sound_streams pv pv'.streams agrees.sound (feeds_closed pv.role pv.floor id pv.streams agrees.sound.feeds); alone = refl; others = λ k ne. closed_others id k pv.streams ne })
           (free_own w n c node (gone states) s.agrees.1.differ v id (s.nobody v id has)))
           s
 

@@ -59,7 +59,7 @@ module _ (w : PlainWorld) (r : Chronicle) (cl : Cluster) (a : AgreesIn idle w r 
     (x : IsOpenFor r.tree (r.branch_at n v) g t.id (vb_of w n v)) (exactly : TakesExactly) where
   open x use {vb as p, stream as o}
 
-  module _ (near : is_in_memory p.floor o ≡ true) (ends : end_span o (all_spans p.spans) p.held ≡ None) where
+  module _ (near : o.cursor ≡ true) (ends : end_span o (all_spans p.spans) p.held ≡ None) where
     abbrev vb : VbAgrees r n v (leader w r cl a n v g t.id x) p
     vb = agrees w r cl a n v g t.id x
 
@@ -72,13 +72,13 @@ module _ (w : PlainWorld) (r : Chronicle) (cl : Cluster) (a : AgreesIn idle w r 
         none m (subst (λ y. MayEnd p y m) same may)
 
     floor_low : p.floor ≤ o.place
-    floor_low = leb-true p.floor o.place near
+    floor_low = vb.sound.feeds.cursors t.id o x.opened near
 
     -- so no change that it is shown is held above its place, once it has what it needs
     none_above : (o.taken ≡ false → need_of o ≤ p.position.at) → (c : Change) → IsIn c p.held → o.place < c.seq → c.seq ≤ p.position.at → (o.sync ≡ true) ⊎ (is_visible c.act ≡ true) → ⊥
     none_above needed c there above below seen =
         may_not p.position.at (record {
-          memory = floor_low;
+          cursor = near;
           above = omega (arith, above, below);
           span = ends_last p.floor p.position.at (all_spans p.spans) vb.sound.spans (let low = floor_low in omega (arith, low, above, below));
           whole = cuts_none p.floor p.position.at (all_spans p.spans) vb.sound.spans;
@@ -129,7 +129,7 @@ module _ (w : PlainWorld) (r : Chronicle) (cl : Cluster) (a : AgreesIn idle w r 
         by false e = by_need e (nat_le (need_of o) p.position.at) refl
 
   -- so it has no more to put
-  pub quiet_stream : t.ended ≡ false → length t.items ≤ t.next → reaches_end t.until t.marked ≡ false → is_in_memory p.floor o ≡ true → end_span o (all_spans p.spans) p.held ≡ None → IsQuiet r n v g
+  pub quiet_stream : t.ended ≡ false → length t.items ≤ t.next → reaches_end t.until t.marked ≡ false → o.cursor ≡ true → end_span o (all_spans p.spans) p.held ≡ None → IsQuiet r n v g
   quiet_stream going whole unreached near ends = record {
     whole = put_whole g (r.held n v) g.last t si.begun whole;
     stays = sym si.ended ∙ going;
@@ -143,7 +143,7 @@ module _ (w : PlainWorld) (r : Chronicle) (cl : Cluster) (a : AgreesIn idle w r 
   saved_told = saved_so (r.disk_at n v) (cl.disks (seat n v)) (shelf_of w n v) p (subst (DiskIsIf (r.disk_at n v) (cl.disks (seat n v)) (shelf_of w n v)) x.there (a.disks n v))
 
   -- or it waits, where not all that it lacks is in memory
-  pub waiting_stream : t.ended ≡ false → length t.items ≤ t.next → reaches_end t.until t.marked ≡ false → is_in_memory p.floor o ≡ false → WaitsSaved r n v g
+  pub waiting_stream : t.ended ≡ false → length t.items ≤ t.next → reaches_end t.until t.marked ≡ false → is_in_memory p o.place ≡ false → WaitsSaved r n v g
   waiting_stream going whole unreached far = record {
     whole = put_whole g (r.held n v) g.last t si.begun whole;
     stays = sym si.ended ∙ going;

@@ -5,10 +5,12 @@ use Rattle.transcript_law.proofs.Words.{Frame, RESPONSE, spelling, Readable, dcp
 use Rattle.transcript_law.proofs.Words.{Member, Cluster, SoundCluster, flight_from, flight_end, Stream, Plain, is_active, is_follower, stream_at, Handshake, PlainStream, stream_verdict, act_message, STATE_CHANGED}
 use Rattle.transcript_law.proofs.Words.{PlainLink, link_number, producer_node, consumer_node, PlainWorld, Outcome, is_one_of, with_branches, ItemLine, Begun, Granted}
 use Rattle.transcript_law.proofs.{Words.{Chronicle, after_lines, item_of_change, LawfulFrom, PlainProducer, PlainConsumer, uuid_of, front, Dial}, invariant.Seats.{seat}, invariant.Trees.{AreTold, IdsFit}}
-use Rattle.{dcp_consumer.specs.declared.handshake.Dialed.{Dialed}, dcp_producer.specs.declared.desk.Desk.{Desk}, transcript_law.proofs.links.Firsts.{request_frames, first_answers, first_count, set_after, waits_after}}
+use Rattle.{dcp_consumer.specs.declared.handshake.Dialed.{Dialed}, dcp_producer.specs.declared.desk.Desk.{Desk}, transcript_law.proofs.links.Firsts.{request_frames, first_answers, first_count, set_after, waits_after}, transcript_law.proofs.links.Sources.{ItemsFit}}
 use Rattle.transcript_law.specs.{Feeding.{HasOpen}, Undone.{newest}}
 use Rattle.vb_events.specs.declared.event.StreamName.TheVariants.{Link}
 use Rattle.dcp_consumer.specs.Dialing.{flagged}
+use Rattle.dcp_producer.specs.Firsts.{first_of}
+use Rattle.dcp_producer.specs.Frames.{marker_flags}
 use Rattle.dcp_consumer.specs.declared.handshake.Handshake.TheVariants as waiting
 use Rattle.mcbp_dcp.specs.declared.shape.TheConstants.{SUCCESS}
 use Rattle.takeover.specs.GivingUp.{new_give_up}
@@ -125,10 +127,14 @@ end_frames o vb why true = dcp_frame (msg.StreamEnd why) o vb ∷ []
 abbrev pub tail_frames : ℕ → ℕ → Handing → Bool → List Frame
 tail_frames o vb h over = state_frames o vb h ++ end_frames o vb STATE_CHANGED over
 
--- the frames of whole snapshots, the first of which starts there, and each other one where the one before it ended, and of what is behind them
-abbrev pub flight_frames : ℕ → ℕ → List Frame → ℕ → List (ℕ × List Change) → List Frame
+-- snapshots, by their ends and items, without where each was taken from: true for the disk
+abbrev pub flight_of : List (Bool × (ℕ × List Change)) → List (ℕ × List Change)
+flight_of snapshots = map (λ s. s.1) snapshots
+
+-- the frames of whole snapshots, the first of which starts there, and each other one where the one before it ended, and of what is behind them; the marker of each tells where it was taken from
+abbrev pub flight_frames : ℕ → ℕ → List Frame → ℕ → List (Bool × (ℕ × List Change)) → List Frame
 flight_frames o vb tail start [] = tail
-flight_frames o vb tail start (x ∷ more) = dcp_frame (msg.SnapshotMarker start x.0 1) o vb ∷ items_frames o vb x.1 ++ flight_frames o vb tail x.0 more
+flight_frames o vb tail start (s ∷ more) = dcp_frame (msg.SnapshotMarker start s.1.0 (marker_flags s.0)) o vb ∷ items_frames o vb s.1.1 ++ flight_frames o vb tail s.1.0 more
 
 -- what is to come of the snapshot that the consumer is in
 abbrev pub coming_items : Option (List Change) → List Change
@@ -162,13 +168,13 @@ marker_start true p = p.se
 marker_start false p = fork_of p
 
 -- all frames of a stream that its consumer has not taken yet
-abbrev pub stream_frames : ℕ → ℕ → List Frame → Bool → Position → Option (List Change) → List (ℕ × List Change) → List Frame
-stream_frames o vb tail in_one p coming flight = items_frames o vb (coming_items coming) ++ flight_frames o vb tail (marker_start in_one p) flight
+abbrev pub stream_frames : ℕ → ℕ → List Frame → Bool → Position → Option (List Change) → List (Bool × (ℕ × List Change)) → List Frame
+stream_frames o vb tail in_one p coming snapshots = items_frames o vb (coming_items coming) ++ flight_frames o vb tail (marker_start in_one p) snapshots
 
 -- the last snapshot that a stream's lines tell of is the one that its producer took last, of which so many items were put
 abbrev pub BegunAgrees : Option Begun → PlainStream → Type 0
 BegunAgrees None stream = stream.items ≡ []
-BegunAgrees (Some b) stream = Covers stream.items b.history b.from b.end × (b.items ≡ map item_of_change (take stream.next stream.items))
+BegunAgrees (Some b) stream = Covers stream.items b.history b.from b.end × (b.items ≡ map item_of_change (take stream.next stream.items)) × ItemsFit b stream.items
 
 -- the vBucket that feeds it was given up for it, at the last seqno of its branch
 pub record GivenUp (role : Role) (leader : Member) (given : Option ℕ) : Type 0 where
@@ -221,11 +227,13 @@ pub record IsEndless (stream : PlainStream) : Type 0 where
   pub until : top < stream.until
   pub marked : IsLow stream.marked
 
--- a stream of the vBucket vb as its producer keeps it: it is the one that the lines tell, and of the branch that its consumer's member is fed with
-pub record PutAgrees (o vb : ℕ) (log : List LogEntry) (begun : Option Begun) (stream : PlainStream) (u : ℕ) (fed : List LogEntry) : Type 0 where
+-- a stream of the vBucket vb as its producer keeps it: it is the one that the lines tell, was marked exactly where they tell of a marker, and is of the branch that its consumer's member is fed with
+pub record PutAgrees (o vb : ℕ) (ask : StreamAsk) (log : List LogEntry) (begun : Option Begun) (stream : PlainStream) (u : ℕ) (fed : List LogEntry) : Type 0 where
   pub vb_is : stream.vb ≡ vb
   pub opaque_is : stream.opaque ≡ o
   pub no_end : IsEndless stream
+  pub first_is : stream.first ≡ first_of ask
+  pub marked_is : is_some stream.marked ≡ is_some begun
   pub fits : All ChangeFits stream.items
   pub next_in : stream.next ≤ length stream.items
   pub last : BegunAgrees begun stream
@@ -244,7 +252,7 @@ pub record WayIs (place : ℕ) (told : List (ℕ × ℕ)) (begun : Bool) (flight
 
 -- a stream that was let continue: what the lines tell of it, what its producer keeps of it, and what its consumer has of it
 pub record StreamAgrees (o vb : ℕ) (g : Granted) (stream : PlainStream) (pv : Option Plain) (leader : Member) (feed : Feed) (kn : Member) (in_one : Bool) (h : Handing) : Type 0 where
-  pub put : PutAgrees o vb g.log g.last stream feed.u feed.log
+  pub put : PutAgrees o vb g.ask g.log g.last stream feed.u feed.log
   pub open put use *
   pub opens : stream.ended ≡ false → Open stream.id g pv leader feed h
   pub given_in : GivenIn h feed.given g.place
@@ -413,6 +421,11 @@ pub record LogFits (log : List LogEntry) : Type 0 where
   pub short : length log ≤ 25
   pub entries : All EntryFits log
 
+-- the snapshots on their way, each with where it was taken from: true for the disk
+pub record Sourced (flight : List (ℕ × List Change)) : Type 0 where
+  pub snapshots : List (Bool × (ℕ × List Change))
+  pub are : flight_of snapshots ≡ flight
+
 -- after it was granted: first its answer comes, then its snapshots, and last its end; the frames that the consumer has not taken were put, or are to be put
 pub record Streaming (fv : Wants) (kn : Member) (pv : Option Plain) (leader : Member) (g : Option Granted) (served : PlainProducer) (asker : PlainConsumer) (up put : List Frame) : Type 0 where
   pub granted_is : Granted
@@ -421,6 +434,8 @@ pub record Streaming (fv : Wants) (kn : Member) (pv : Option Plain) (leader : Me
   pub open serving use *
   pub feed : Feed
   pub fed : kn.link ≡ Some feed
+  pub sources : Sourced feed.flight
+  pub open sources use *
   pub log_fits : LogFits feed.log
   pub open log_fits use *
   pub seen : ℕ
@@ -428,7 +443,7 @@ pub record Streaming (fv : Wants) (kn : Member) (pv : Option Plain) (leader : Me
   pub open taking use *
   pub streams : StreamAgrees asker.asked asker.dialed.vb granted_is serving.stream pv leader feed kn (is_granted asker.dialed seen && not fv.first) serving.handing
   pub all : drop seen (first_answers asker.dialed ++ answer_frame asker.asked feed.log ask_answer.Go ∷ [])
-      ++ stream_frames asker.asked asker.dialed.vb (tail_frames asker.asked asker.dialed.vb serving.handing granted_is.over) (is_granted asker.dialed seen && not fv.first) kn.position kn.coming feed.flight ≡ put ++ serving.unput
+      ++ stream_frames asker.asked asker.dialed.vb (tail_frames asker.asked asker.dialed.vb serving.handing granted_is.over) (is_granted asker.dialed seen && not fv.first) kn.position kn.coming snapshots ≡ put ++ serving.unput
 
 -- once the consumer's vBucket took its branch over: whether the answer to that came, and what the reason of the stream's end is, by whether a change of role ended the stream
 abbrev pub heir_step : Bool → GiveUp

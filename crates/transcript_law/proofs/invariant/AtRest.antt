@@ -18,11 +18,11 @@ use Rattle.node_core.specs.Admin.{admin_job, admin_refused}
 use Rattle.node_core.specs.Clients.{PlainClient, client_fed, client_posted, client_pulled}
 use Rattle.node_core.specs.Conduct.{FollowsAt, IsFollowing, KeepsLink, RollsAt}
 use Rattle.node_core.specs.Dials.{dial_due, dial_bytes, untold}
-use Rattle.node_core.specs.Flushing.{chain_changed, flush_at, ticked}
+use Rattle.node_core.specs.Flushing.{chain_changed, ticked}
 use Rattle.node_core.specs.Loading.{are_short, loaded_by, start_job, starts_of}
 use Rattle.node_core.specs.Peers.{PeerResult, peer_answered, peer_frames, peer_heard}
 use Rattle.node_world.specs.{Arms.{fired_by, placed, under_arm}, Dues.{due_at, due_in, due_of, is_counted}, Links.{dial_of, frame_up, frames_up, moved_len, peer_of, untold_peer}, Turns.{posted_at, posted_in, role_called, turned}}
-use Rattle.node_world.specs.Nodes.{all_posted, awaiting, chain_line, chain_made, flush_line, hang_at, hung_if, is_active_one, posted_if, posted_to, pull_at, pull_if, tick_line, vb_made, with_kept}
+use Rattle.node_world.specs.Nodes.{flush_here, all_posted, awaiting, chain_line, chain_made, flush_line, hang_at, hung_if, is_active_one, posted_if, posted_to, pull_at, pull_if, tick_line, vb_made, with_kept}
 use Rattle.node_world.specs.Power.{burnt_arm, loaded_node, not_opened, start_at, start_causes, start_if, start_one, start_step, started_by, starts_from, with_arm}
 use Rattle.node_world.specs.World.{down_in, down_outcome}
 use Rattle.node_world.specs.Worlds.{on_made}
@@ -205,8 +205,8 @@ told_still n rs node node' clock clients off ranged all = posts_still n rs node'
 -- a node's own lines
 pub flush_still : (n v : ℕ) (p : FlushPart) (node : PlainNode) → NodeRanged n node → AllAt Still node.vbs → AllAt Still (flush_line n v p node).0.vbs
 flush_still n v p node ranged all =
-    let x = after_job (flush_at n v p) node.vbs node.shelves in
-    told_still n x.1.resolved node (with_kept node x.0) refl (λ c. refl) refl ranged (still_job (flush_at n v p) node.vbs node.shelves (flush_tame n v p) all)
+    let x = after_job (flush_here n v p node) node.vbs node.shelves in
+    told_still n x.1.resolved node (with_kept node x.0) refl (λ c. refl) refl ranged (still_job (flush_here n v p node) node.vbs node.shelves (flush_tame n v p (is_some (node.vbs v))) all)
 
 pub chain_still : (n v : ℕ) (others : Members) (node : PlainNode) → NodeRanged n node → AllAt Still node.vbs → AllAt Still (chain_line n v others node).0.vbs
 chain_still n v others node ranged all = by (not (is_some (node.vbs v))) (not (is_active_one (node.vbs v))) (is_chain n others) refl

@@ -1,5 +1,6 @@
 -- what is left alone by a step at one link agrees as before
 use Rattle.std.specs.Prelude.{◌≡◌, ◌⊎◌, ◌<◌, ◌≤◌, ◌+◌, ◌*◌, ◌^◌, ◌==◌}
+use Rattle.vbucket.specs.Laws.{AreFed}
 use Rattle.transcript_law.proofs.Words.{ℕ, Bool, true, false, List, refl, ap, sym, ◌∙◌, subst, inl, inr, ⊎_elim, Option, Some, None, All, All-cons, All-nil, Frame, Role, Member, Cluster, SoundCluster, Stream, arith}
 use Rattle.transcript_law.proofs.Words.{Plain, is_active, is_follower, stream_at, Sound, row_at, row_put, PlainStream, PlainLink, link_number, producer_node, consumer_node, PlainWorld, is_one_of, Granted, Chronicle}
 use Rattle.transcript_law.proofs.{Words.{Branch, Covers, PlainProducer, PlainConsumer, Begun, item_of_change, map, drop, take, after_end, if◌then◌else◌, eq-eqb, ne_eqb, []}, invariant.Seats.{seat, seat_one}, invariant.Trees.{IsTold}}
@@ -163,8 +164,8 @@ module _ (r r' : Chronicle) (n v : ℕ) (m m' : Member) (told : ToldAt r r' n v)
   agrees_carried (Some vb) same a = streams_carried vb vb.streams a.sound a
 
 -- a vBucket with other streams is sound as it was
-pub sound_streams : (vb : Plain) (streams : List Stream) → Sound vb → Sound (record vb { streams = streams })
-sound_streams vb streams s = record { spanned = s.spanned; placed = s.placed; stamped = s.stamped; based = s.based; saved = s.saved; counted = s.counted }
+pub sound_streams : (vb : Plain) (streams : List Stream) → Sound vb → AreFed vb.role vb.floor streams → Sound (record vb { streams = streams })
+sound_streams vb streams s feeds = record { spanned = s.spanned; placed = s.placed; stamped = s.stamped; based = s.based; saved = s.saved; counted = s.counted; feeds = feeds }
 
 -- a link agrees as before, where what it speaks of stays
 pub link_carried_by : (w w' : PlainWorld) (r r' : Chronicle) (c c' : Cluster) (link : PlainLink) (up down : List Frame)

@@ -4,12 +4,12 @@ use Rattle.transcript_law.proofs.Words.{ℕ, zero, suc, Bool, true, false, List,
 use Rattle.transcript_law.proofs.Words.{AdminCall, AdminResult, Frame, LinkResult, PlainLink, PlainNode, PlainWorld, Outcome, Told, VbCall, call_at, called_at, consumer_node, cut_off, done, empty_world, link_number, moved_len}
 use Rattle.transcript_law.proofs.Words.{no_node, node_if, node_outcome, on_link, on_node, own_link, peer_of, producer_node, refused_or, role_outcome, row_at, turned_after, turned_if, unlinked, up_at, links_ended, with_ended, with_links, with_node_at, with_states}
 use Rattle.disk_journals.specs.{Books.{below}}
-use Rattle.node_core.specs.{Admin.{admin_job, admin_refused, role_at}, Flushing.{flush_at, settled_result}, Peers.{PeerResult, peer_answered, peer_frames, peer_heard}}
+use Rattle.node_core.specs.{Admin.{admin_job, admin_refused, role_at}, Flushing.{settled_result}, Peers.{PeerResult, peer_answered, peer_frames, peer_heard}}
 use Rattle.node_core.specs.Clients.{PlainClient, client_ended}
 use Rattle.std.specs.Option.{option_map}
 use Rattle.node_world.specs.Arms.{fired_by, placed, under_arm}
 use Rattle.node_world.specs.{Cuts.{closed_at}, Links.{frame_up, frames_up, frame_posted, untold_peer}, Turns.{posted_at, posted_in, role_called, turned}, World.{down_outcome, relinked}, Worlds.{arm_in, on_made}}
-use Rattle.node_world.specs.Nodes.{all_posted, flush_line, save_line, with_clients_ended, with_kept, with_posts}
+use Rattle.node_world.specs.Nodes.{flush_here, all_posted, flush_line, save_line, with_clients_ended, with_kept, with_posts}
 use Rattle.node_world.specs.Power.{after_broken, after_fire, all_cut, all_numbers, all_unlinked, closed_line, closed_lines, disk_end, down_lines, dropped, end_line, end_lines, has_client, is_broken_answer, is_this_number, is_touched, numbers, stopped_node, touches, with_arm, with_broken}
 use Rattle.node_world.specs.declared.arm.Fired.{Fired}
 use Rattle.node_world.specs.declared.arm.Fired.TheVariants as fired
@@ -117,7 +117,7 @@ pub posts : (conns : Conns) (n : ℕ) (rs : List Resolved) (node node' : PlainNo
 posts conns n rs node node' lines mute clients off t = told_goes conns n rs node' lines mute (same_told (conns n) n node node' clients off t)
 
 pub flush_goes : (conns : Conns) (n v : ℕ) (p : FlushPart) (node : PlainNode) → NodeTold (conns n) n node → NodeGoes conns n (flush_line n v p node).0 (flush_line n v p node).1.events
-flush_goes conns n v p node t = let x = after_job (flush_at n v p) node.vbs node.shelves in posts conns n x.1.resolved node (with_kept node x.0) x.1.events (flush_mute n v p node) (λ c. refl) refl t
+flush_goes conns n v p node t = let x = after_job (flush_here n v p node) node.vbs node.shelves in posts conns n x.1.resolved node (with_kept node x.0) x.1.events (flush_mute n v p node) (λ c. refl) refl t
 
 pub save_goes : (conns : Conns) (n v : ℕ) (node : PlainNode) → NodeTold (conns n) n node → NodeGoes conns n (save_line n v node).0 (save_line n v node).1.events
 save_goes conns n v node t =

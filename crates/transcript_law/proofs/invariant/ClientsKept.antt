@@ -69,6 +69,7 @@ stream_over s s' g stream goes x = record {
   opaque = x.opaque;
   small = x.small;
   until = x.until;
+  first = x.first;
   over = x.over;
   ended = x.ended;
   gives = x.gives;
@@ -86,6 +87,7 @@ stream_over s s' g stream goes x = record {
       b.1,
       b.2,
       held_on begun g.turned refl b.3,
+      b.4,
     )
       where
         held_on : (begun : Begun) (t : Bool) → g.turned ≡ t → All (IsSentOf g begun (if t then g.left else s.held)) stream.items → All (IsSentOf g begun (if t then g.left else s'.held)) stream.items

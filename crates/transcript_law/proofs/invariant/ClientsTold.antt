@@ -3,6 +3,7 @@ use Rattle.std.specs.Prelude.{◌≡◌, ◌≤◌, ◌<◌, ◌^◌, ◌+◌, �
 use Rattle.std.specs.List.{All, sum_by}
 use Rattle.client_session.specs.Serving.{PlainSession}
 use Rattle.client_session.specs.declared.session.Awaited.{Awaited}
+use Rattle.dcp_producer.specs.Firsts.{first_of}
 use Rattle.dcp_producer.specs.Producers.{PlainStream, is_named, is_open, stream_at as kept_at}
 use Rattle.dcp_producer.specs.declared.desk.Handshake.{Handshake}
 use Rattle.dcp_producer.specs.declared.desk.Handshake.TheVariants as handshake
@@ -27,6 +28,7 @@ use Rattle.transcript_law.specs.ClientFrames.{first_request, is_closed_by, setup
 use Rattle.transcript_law.specs.ClientStreams.{held_for, stream_view}
 use Rattle.transcript_law.specs.Feeding.{HasFed, client_in}
 use Rattle.transcript_law.specs.LawfulAnswers.{HasNumber, WRITE_NUMBERS}
+use Rattle.transcript_law.proofs.links.Sources.{ItemsFit}
 use Rattle.transcript_law.specs.LawfulClients.{IsSentOf, NoneWithin}
 use Rattle.transcript_law.specs.LinesTold.{Chronicle}
 use Rattle.transcript_law.specs.StreamLaws.{item_of_change}
@@ -109,7 +111,7 @@ abbrev pub BegunIs : ClientStream → List Change → Option Begun → PlainStre
 BegunIs g held None stream = (stream.items ≡ []) × (stream.marked ≡ None)
 BegunIs g held (Some b) stream =
     Covers stream.items b.history b.from b.end × (b.items ≡ map item_of_change (take stream.next stream.items)) × (stream.marked ≡ Some b.end)
-    × All (IsSentOf g b (held_for g held)) stream.items
+    × All (IsSentOf g b (held_for g held)) stream.items × ItemsFit b stream.items
 
 -- the vBucket's place is where the last snapshot ended, or, where the stream is not shown everything, above that, with nothing that it is shown in between
 abbrev pub PlaceIs : Bool → List Change → ℕ → ℕ → Type 0
@@ -140,6 +142,7 @@ pub record StreamIs (tree : List Branch) (on : Option ℕ) (held : List Change) 
   pub opaque : stream.opaque ≡ g.opaque
   pub small : stream.vb < 2 ^ 16
   pub until : stream.until ≡ g.ask.end
+  pub first : stream.first ≡ first_of g.ask
   pub over : g.over ≡ false
   pub ended : stream.ended ≡ g.turned
   pub gives : stream.gives ≡ None

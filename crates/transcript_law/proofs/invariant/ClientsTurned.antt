@@ -12,6 +12,7 @@ use Rattle.transcript_law.proofs.invariant.{Holdings.{ChangeFits, vb_of}, OpenSt
 use Rattle.transcript_law.specs.ClientFrames.{is_closed_by, setup_after}
 use Rattle.transcript_law.specs.ClientStreams.{held_for, past_turn, with_clients_of, with_turn}
 use Rattle.transcript_law.specs.Feeding.{HasFed, HasOpen, IsOfClient, client_in}
+use Rattle.transcript_law.proofs.links.Sources.{ItemsFit}
 use Rattle.transcript_law.specs.LawfulClients.{IsSentOf}
 use Rattle.transcript_law.specs.StreamsTold.{ClientKnown, ClientStream}
 use Rattle.vb_events.specs.declared.event.StreamName.TheVariants as name
@@ -20,7 +21,7 @@ use Rattle.transcript_law.proofs.invariant.Owing.{Later}
 -- what a change of role at the vBucket v makes of a connection's stream
 pub ended_same : (v : ℕ) (ids : List ℕ) (stream : PlainStream) → SameStream stream (ended_in v ids stream)
 ended_same v ids stream = elim (stream.vb == v && list_any (λ i. i == stream.id) ids) as (λ b. SameStream stream (if b then record stream { ended = true } else stream))
-    [ true ↦ record { id = refl; until = refl; marked = refl; vb = refl; opaque = refl; items = refl; next = refl; gives = refl; ended = λ e. refl } | false ↦ stream_same ]
+    [ true ↦ record { id = refl; until = refl; first = refl; marked = refl; vb = refl; opaque = refl; items = refl; next = refl; gives = refl; ended = λ e. refl } | false ↦ stream_same ]
 
 -- an open stream's number is one of those that end
 pub id_listed : (id : ℕ) (ss : List Stream) (s : Stream) → stream_at id ss ≡ Some s → list_any (λ i. i == id) (stream_ids ss) ≡ true
@@ -67,6 +68,7 @@ stream_turned s s' g x y same over a = record {
   opaque = same.opaque ∙ a.opaque;
   small = subst (λ k. k < 2 ^ 16) (sym same.vb) a.small;
   until = same.until ∙ a.until;
+  first = same.first ∙ a.first;
   over = a.over;
   ended = over;
   gives = same.gives ∙ a.gives;
@@ -88,6 +90,7 @@ stream_turned s s' g x y same over a = record {
       b.1 ∙ (λ i. map item_of_change (take (sym same.next i) (sym same.items i))),
       same.marked ∙ b.2,
       subst (All (IsSentOf g begun (held_for g s.held))) (sym same.items) b.3,
+      subst (ItemsFit begun) (sym same.items) b.4,
     )
 
 -- so it is of what is known and kept of it, if anything is

@@ -204,7 +204,7 @@ line_entered r (event.Changed n v uuid change) behind old lawful = record {
 }
 line_entered r (event.Asked (name.Link l) n v ask high log said) behind old lawful = asked_entered r l n v ask high log said old lawful
 line_entered r (event.Asked (name.Client m c) n v ask high log said) behind old lawful = record { disks = old.disks; logs = old.logs; streams = old.streams }
-line_entered r (event.Marked (name.Link l) start end flags) behind old lawful = going_entered r (name.Link l) (with_begun r.tree start end) (λ g. refl) old
+line_entered r (event.Marked (name.Link l) start end flags) behind old lawful = going_entered r (name.Link l) (with_begun r.tree start end flags) (λ g. refl) old
 line_entered r (event.Marked (name.Client m c) start end flags) behind old lawful = record { disks = old.disks; logs = old.logs; streams = old.streams }
 line_entered r (event.Item (name.Link l) seq act key) behind old lawful = going_entered r (name.Link l) (with_item (record { seq = seq; act = act; key = key })) (λ g. refl) old
 line_entered r (event.Item (name.Client m c) seq act key) behind old lawful = record { disks = old.disks; logs = old.logs; streams = old.streams }

@@ -1,6 +1,6 @@
 -- after each line each stream of a vBucket is that of an open link or of a client's connection
 use Rattle.std.specs.Prelude.{◌≡◌, ◌∷◌, ◌++◌}
-use Rattle.transcript_law.proofs.Words.{ℕ, Bool, List, [], refl, ap, inl, inr, ⊎_elim, fold, length, take, Option, Some, None, row_at, States, after, after_job, Cause, EndReason, Role, Plain}
+use Rattle.transcript_law.proofs.Words.{ℕ, Bool, List, [], refl, ap, inl, inr, ⊎_elim, fold, length, take, Option, Some, None, is_some, row_at, States, after, after_job, Cause, EndReason, Role, Plain}
 use Rattle.transcript_law.proofs.Words.{PlainLink, link_number, producer_node, consumer_node, PlainNode, PlainWorld, Told, Outcome, DialResult, with_node_at, with_links, with_states, node_outcome, own_link, moved_len, peer_of, dial_of, dial_bytes, over_why, up_at, pump_at, refusal, refused_or, first_cause, done}
 use Rattle.transcript_law.proofs.Words.{cut_outcome, with_dialed, link_outcome, on_link, with_link, StreamAsk, new_link, new_vb, peer_pulled, with_vb_at}
 use Rattle.transcript_law.proofs.{invariant.Agreement.{IsLink}, invariant.FedClients.{Keeps, NodeFed, keeps_all, less_keeps, none_fed, posts_keep}, invariant.FedNodes.{pump_held, up_held}, invariant.Feeding.{AllFed, AllKept, Fed, Fine, broken_fine, kept_fine, relinked_fed, served_fed, swapped, unlinked_fine}, invariant.LinkRows.{found_is_link}, verbs.Leaving.{own_found}}
@@ -10,12 +10,12 @@ use Rattle.journal_points.specs.Points.{saved}
 use Rattle.vb_calls.specs.declared.calls.Resolved.{Resolved}
 use Rattle.disk_journals.specs.{Arms.{opens_all}, Books.{Book}}
 use Rattle.durability.specs.Chains.{Members}
-use Rattle.node_core.specs.{Dials.{dial_due}, Flushing.{chain_changed, flush_at, ticked}, Loading.{are_short, loaded_by, no_states, starts_of, with_loaded}, Peers.{peer_frames, peer_heard}}
+use Rattle.node_core.specs.{Dials.{dial_due}, Flushing.{chain_changed, ticked}, Loading.{are_short, loaded_by, no_states, starts_of, with_loaded}, Peers.{peer_frames, peer_heard}}
 use Rattle.node_world.proofs.Keeping.{due_dialed, fed_dialed, given_desk, pulled_desk}
 use Rattle.node_world.specs.Arms.{fired_by, placed}
 use Rattle.node_world.specs.Dues.{due_at, due_in, due_of, is_counted, with_due}
 use Rattle.node_world.specs.Links.{frames_up, left_unless, untold_peer, with_down, with_server, with_up}
-use Rattle.node_world.specs.Nodes.{all_posted, chain_causes, chain_line, chain_made, flush_line, tick_line, vb_made, with_kept}
+use Rattle.node_world.specs.Nodes.{flush_here, all_posted, chain_causes, chain_line, chain_made, flush_line, tick_line, vb_made, with_kept}
 use Rattle.node_world.specs.Power.{burnt_arm, loaded_node, not_opened, opened_at, start_at, start_books, start_if, start_one, started_by, starts_from}
 use Rattle.node_world.specs.World.{down_in, down_outcome, relinked}
 use Rattle.node_world.specs.declared.arm.Fired.{Fired}
@@ -35,7 +35,7 @@ pub same_keeps : (node : PlainNode) → Keeps node node
 same_keeps node others fed = fed
 
 pub flush_keeps : (n v : ℕ) (p : FlushPart) (node : PlainNode) → Keeps node (flush_line n v p node).0
-flush_keeps n v p node = let x = after_job (flush_at n v p) node.vbs node.shelves in less_posts node (with_kept node x.0) x.1.resolved (flush_quiet n v p node.vbs node.shelves) (λ c. refl)
+flush_keeps n v p node = let x = after_job (flush_here n v p node) node.vbs node.shelves in less_posts node (with_kept node x.0) x.1.resolved (flush_quiet n v p (is_some (node.vbs v)) node.vbs node.shelves) (λ c. refl)
 
 pub refused_keeps : (node : PlainNode) (x : PlainNode × Told) (why : Option Cause) → Keeps node x.0 → Keeps node (refused_or why node x).0
 refused_keeps node x None keeps = keeps

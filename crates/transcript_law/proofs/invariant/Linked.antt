@@ -1,11 +1,15 @@
 -- the streams of vBuckets are those of open links and of clients' connections, and the other way round, after every script
-use Rattle.std.specs.Prelude.{◌≡◌, ◌∷◌, ◌⊎◌, ◌==◌, if◌then◌else◌}
-use Rattle.transcript_law.proofs.Words.{ℕ, true, false, List, [], refl, ap, sym, ◌∙◌, subst, inl, inr, ⊎_elim, Option, Some, None, not, eqb-true, All-head, All-tail, ScriptLine, VerbFits, ScriptFits, Stream, Plain, stream_at}
+use Rattle.std.specs.Prelude.{◌≡◌, ◌≢◌, ◌∷◌, ◌⊎◌, ◌==◌, if◌then◌else◌}
+use Rattle.transcript_law.proofs.Words.{ℕ, true, false, List, [], refl, ap, sym, ◌∙◌, subst, inl, inr, ⊎_elim, Option, Some, None, not, eqb-true, All-head, All-tail, ScriptLine, VerbFits, ScriptFits, Span, Stream, Plain, plain_step, stream_at}
 use Rattle.transcript_law.proofs.Words.{Cluster, PlainNode, PlainWorld, PlainLink, link_number, producer_node, consumer_node, vb_in, with_branches, verb_step, world_step, empty_world, Chronicle, empty_chronicle, world_of}
 use Rattle.transcript_law.proofs.{invariant.Agreement.{Agrees, AgreesIn, FollowsBy, IsLink, idle, is_down, is_running, vb_of}, invariant.Carried.{link_kept, numbers, stream_opened}, disks.Disks.{power_in}, invariant.Feeding.{AllFed, AllKept}, invariant.LinkRows.{found_is_link, links_apart}, invariant.Numbered.{numbered, numbers_of}}
 use Rattle.transcript_law.proofs.{invariant.Ranged.{IsRanged, start_ranged}, Runs.{Along, along, along_start, row_of}, verbs.Rows.{Row}}
 use Rattle.{takeover.specs.declared.take_over.TakeStep.{TakeStep}, vb_calls.specs.Following.{is_follower}, vb_types.specs.declared.role.Role.{Role}}
-use Rattle.transcript_law.specs.Feeding.{FollowsOrOwns, Has, HasFed, HasIn, HasOpen, HasStream, IsOf, IsOfClient, IsOpenAt, LinksAreFed, StreamsAreFed, client_in}
+use Rattle.transcript_law.specs.Feeding.{FollowsOrOwns, Has, HasFed, HasIn, HasOpen, HasStream, IsOf, IsOfClient, IsOpenAt, KnowsIn, LinksAreFed, StreamsAreFed, StreamsAreKnown, client_in}
+use Rattle.vb_calls.specs.Streams.{take_from, take_to}
+use Rattle.vb_calls.specs.declared.calls.VbAnswer.TheVariants as answer
+use Rattle.vb_calls.specs.declared.calls.VbCall.TheVariants as call
+use Rattle.vbucket.{proofs.Asks.{not_open}, proofs.Closing.{places}, specs.Asks.{IsOpen}}
 use Rattle.transcript_law.proofs.invariant.{ClientsTold.{ClientAgrees, KeptIs}, OpenStreams.{Among}}
 use Rattle.transcript_law.specs.ClientFrames.{is_closed_by}
 use Rattle.transcript_law.specs.StreamsTold.{ClientStream}
@@ -132,3 +136,28 @@ linked_from w r (line ∷ lines) fits x fed =
 -- after a script
 pub streams_linked : (script : List ScriptLine) → ScriptFits script → StreamsAreFed (world_of script) × LinksAreFed (world_of script)
 streams_linked script fits = linked_from empty_world empty_chronicle script fits along_start (λ n node is. cc)
+
+-- ---- what is there is known
+
+has_open : (id : ℕ) (ss : List Stream) → Has ss id → IsOpen id ss
+has_open id [] h = h
+has_open id (s ∷ ss) (inl e) = inl e
+has_open id (s ∷ ss) (inr h) = inr (has_open id ss h)
+
+taken_somehow : (x : Option Span) (s : Stream) (vb : Plain) → (take_to x s vb).1.answer ≢ answer.Absent
+taken_somehow None s vb is = cc
+taken_somehow (Some w) s vb is = cc
+
+take_known : (vb : Plain) (id : ℕ) → IsOpen id vb.streams → (plain_step vb (call.Take id)).1.answer ≢ answer.Absent
+take_known vb id there = by (stream_at id vb.streams) refl
+  where
+    by : (o : Option Stream) → stream_at id vb.streams ≡ o → (take_from o vb).1.answer ≢ answer.Absent
+    by None e = absurd (not_open id vb.streams e there)
+    by (Some s) e = taken_somehow _ s vb
+
+knows_in : (o : Option Plain) (id : ℕ) → HasIn o id → KnowsIn o id
+knows_in None id h = h
+knows_in (Some vb) id h = let there : IsOpen id vb.streams = has_open id vb.streams h in (λ is. (places vb id).absent.0 is there, take_known vb id there)
+
+pub streams_known : (script : List ScriptLine) → ScriptFits script → StreamsAreKnown (world_of script)
+streams_known script fits = λ who n v id has. knows_in (vb_in ((world_of script).nodes n) v) id ((streams_linked script fits).0.opened who n v id has)

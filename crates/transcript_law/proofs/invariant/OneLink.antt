@@ -215,7 +215,7 @@ carries_producer busy busy' w w' r r' c c' l link link' id pv pv' a found same k
     (producer_rests busy w r r' c c' l link a found told fed w' (row_put link_number l link' w.links) id pv pv' known changed became free (put_ends busy w w' r c l link link' a found same became.powers became.linked))
     agrees (producer_owed busy w r r' c c' l link a found told fed w' (row_put link_number l link' w.links) id pv pv' known changed became free)
 
-fed_none : (k : ℕ) (c : Cluster) → FeedChanged k c c
+pub fed_none : (k : ℕ) (c : Cluster) → FeedChanged k c c
 fed_none k c = record { changed = record { tree = refl; others = λ j ne. refl; disks = λ j ne. refl }; fed = fed_same (c.nodes k); disk = refl }
 
 -- a step that changes no vBucket and no member of the cluster

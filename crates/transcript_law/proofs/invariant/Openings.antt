@@ -25,7 +25,7 @@ use Rattle.vb_calls.proofs.Conduct.{after_always}
 use Rattle.vb_calls.specs.Programs.{AnyCall}
 use Rattle.vb_calls.specs.States.{states_step}
 use Rattle.vb_calls.specs.Spans.{all_spans}
-use Rattle.vb_calls.specs.Streams.{end_span, is_in_memory, place_reply, take_from, take_to}
+use Rattle.vb_calls.specs.Streams.{end_span, is_in_memory, place_from, placed_by, take_from, take_to}
 use Rattle.vb_calls.specs.declared.calls.VbAnswer.{VbAnswer}
 use Rattle.vb_calls.specs.declared.calls.VbAnswer.TheVariants as answer
 use Rattle.vb_calls.specs.declared.calls.VbCall.TheVariants as call
@@ -70,13 +70,18 @@ module _ (states : States) (v i : ℕ) where
   unplaced_none : place_said (states_step states v (call.Place i)).1 ≡ None → (k : ℕ) → HasIn (states v) k → k ≡ i → ⊥
   unplaced_none = by (states v)
     where
-      placed : (floor : ℕ) (o : Option Stream) → place_told (place_reply floor o).answer ≡ None → o ≡ None
-      placed floor None is = refl
-      placed floor (Some s) is = cc
+      placed_so : (c m : Bool) (s : Stream) (vb : Plain) → place_told (placed_by c m s vb).1.answer ≡ None → Some s ≡ None
+      placed_so true m s vb is = cc
+      placed_so false true s vb is = cc
+      placed_so false false s vb is = cc
+
+      placed : (vb : Plain) (o : Option Stream) → place_told (place_from o vb).1.answer ≡ None → o ≡ None
+      placed vb None is = refl
+      placed vb (Some s) is = placed_so s.cursor (is_in_memory vb s.place) s vb is
 
       by : (o : Option Plain) → place_said (call_at states v (call.Place i) o).1 ≡ None → (k : ℕ) → HasIn o k → k ≡ i → ⊥
       by None lost k h e = absurd h
-      by (Some vb) lost k h e = has_none i vb.streams (placed vb.floor (stream_at i vb.streams) lost) k h e
+      by (Some vb) lost k h e = has_none i vb.streams (placed vb (stream_at i vb.streams) lost) k h e
 
   untaken_none : (name : StreamName) (stream : PlainStream) → IsOver (take_answered name stream (states_step states v (call.Take i)).1).0 → (k : ℕ) → HasIn (states v) k → k ≡ i → ⊥
   untaken_none name stream = by (states v)
@@ -87,7 +92,7 @@ module _ (states : States) (v i : ℕ) where
 
       taken : (vb : Plain) (o : Option Stream) → IsOver (taken_next name stream (take_from o vb).1.answer).0 → o ≡ None
       taken vb None is = refl
-      taken vb (Some s) is = given vb s (if is_in_memory vb.floor s then end_span s (all_spans vb.spans) vb.held else None) is
+      taken vb (Some s) is = given vb s (if s.cursor then end_span s (all_spans vb.spans) vb.held else None) is
 
       by : (o : Option Plain) → IsOver (take_answered name stream (call_at states v (call.Take i) o).1).0 → (k : ℕ) → HasIn o k → k ≡ i → ⊥
       by None lost k h e = absurd h
@@ -266,7 +271,7 @@ module _ (others : ℕ → ℕ → Type 0) where
             by false e h = old h
             by true e h =
                 let same : w ≡ v = eqb-true w v e in
-                ⊎_elim (λ j. old (subst (λ u. HasIn (states u) k) (sym same) (subst (λ o. HasIn o k) (sym there) j))) (λ q. inr (opened_has w k own s.end.streams (inr (sym same, q, refl)))) (has_more (new_stream i ask sync) k pv.streams h)
+                ⊎_elim (λ j. old (subst (λ u. HasIn (states u) k) (sym same) (subst (λ o. HasIn o k) (sym there) j))) (λ q. inr (opened_has w k own s.end.streams (inr (sym same, q, refl)))) (has_more (new_stream pv i ask sync) k pv.streams h)
 
         by_rule : (r : Verdict) → Came (with_vb_at states v (judged_open r pv i ask sync).0, Some (judged_open r pv i ask sync).1)
         by_rule Continue = (own_new, kept_opened s.end own refl held.1)

@@ -3,19 +3,20 @@ use Rattle.std.specs.Prelude.{◌≡◌, if◌then◌else◌}
 use Rattle.transcript_law.proofs.Words.{ℕ, Bool, true, false, List, refl, ap, sym, ◌∙◌, subst, Option, Some, None, Frame, DialResult, Job, Plain, PlainConsumer, Role, Sound, States, VbCall, VbReply, after_job, bind_job, ending_reply, in_role, is_active, is_follower, plain_step, refusal_reply}
 use Rattle.transcript_law.proofs.invariant.{AtRest.{IsAside, RestsIf, aside_rests}, CallsKept.{AllAt, put_all, ran_job}}
 use Rattle.branch_model.specs.Journals.{cas_of_last, image_at}
-use Rattle.dcp_consumer.specs.Machine.{consumer_step, is_streaming, may_acknowledge}
+use Rattle.dcp_consumer.specs.Machine.{consumer_step}
 use Rattle.dcp_consumer.specs.declared.handshake.ConsumerStep.{ConsumerStep}
 use Rattle.dcp_consumer.specs.declared.handshake.ConsumerStep.TheVariants as step
 use Rattle.dcp_consumer.specs.declared.passive_stream.Passive.TheVariants as passive
 use Rattle.node_core.proofs.Conduct.{Follows, FollowsIf, Goes, IsMessage, either, step_goes}
 use Rattle.node_core.specs.Conduct.{IsFollowing}
-use Rattle.node_core.specs.Dials.{acknowledged_result, adopt_result, again_result, call_made, due_met, due_of_reply, due_requested, follower_ask, frame_taken, go_on_with, message_result, over_for, own_result, owned, pend_called, pended, requested_once_more, roll_back, rolled_back, saved_of_reply, step_made, with_consumer}
+use Rattle.node_core.proofs.Dues.{due_always}
+use Rattle.node_core.specs.Dials.{adopt_result, again_result, call_made, due_requested, follower_ask, frame_taken, go_on_with, message_result, over_for, own_result, owned, pend_called, pended, requested_once_more, roll_back, rolled_back, step_made, with_consumer}
 use Rattle.takeover.specs.declared.take_over.TakeStep.TheVariants.{Own, Pend}
 use Rattle.vb_calls.proofs.JobConduct.{always_bind_job, always_lift}
 use Rattle.vb_calls.specs.Flushes.{is_refusal, may_roll_job, note_role_job, read_job, role_job, role_of_call, role_told_job, roll_job, rollable_job, rolled_job}
 use Rattle.vb_calls.specs.Jobs as job
 use Rattle.vb_calls.specs.Jobs.{AlwaysJob, Ended, lift}
-use Rattle.vb_calls.specs.Programs.{Always, AnyReply, Call, Done, Prog}
+use Rattle.vb_calls.specs.Programs.{Always, AnyReply, Prog}
 use Rattle.vb_calls.specs.Roles.{is_heir, is_role, owned as taken_over}
 use Rattle.vb_calls.specs.Shelves.{Book, Broken, DiskFailed, Fate, Reading, Shelves, Shut, Stood, Unread, WasClosed}
 use Rattle.vb_calls.specs.States.{call_at, states_step}
@@ -80,13 +81,7 @@ ran_calm : {A : Type 0} (one : Job A) (states : States) (shelves : Shelves) → 
 ran_calm one states shelves calm all = ran_job RestsIf Calm (λ vb made k rest. k vb rest) (λ id vb rest. rest) (λ v made. Calm made) (λ v ask. Unit {0}) (λ a. Unit {0}) (λ v made k. k) one states shelves calm all
 
 due_calm : (s : DialResult) → CalmProg (due_requested s)
-unfolding due_requested
-due_calm s = either (λ (p : Prog DialResult). CalmProg p) (is_streaming s.dial.consumer.handshake) (Call s.dial.consumer.dialed.vb call.Due (λ reply. due_met s (due_of_reply reply))) (Done s)
-    (following_calm call.Due tt, λ reply any. met (due_of_reply reply)) tt
-  where
-    met : (seq : ℕ) → CalmProg (due_met s seq)
-    met seq = either (λ (p : Prog DialResult). CalmProg p) (may_acknowledge seq s.dial.consumer) (Call s.dial.consumer.dialed.vb call.Stat (λ reply. Done (acknowledged_result seq s (saved_of_reply reply)))) (Done s)
-        (following_calm call.Stat tt, λ reply any. tt) tt
+due_calm s = due_always (λ t. Unit {0}) s (λ seq saved. tt) tt (λ v made. Calm made) (following_calm call.Due tt)
 
 adopt_calm : (log : List LogEntry) (s : DialResult) → CalmProg (go_on_with log s)
 unfolding go_on_with

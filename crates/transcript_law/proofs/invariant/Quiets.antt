@@ -1,6 +1,6 @@
 -- what a node does for the commands of its clients, for an operator and for its dials opens no stream
 use Rattle.std.specs.Prelude.{◌≡◌, ◌==◌, if◌then◌else◌}
-use Rattle.transcript_law.proofs.Words.{ℕ, Bool, true, false, List, refl, ap, sym, ◌∙◌, subst, inl, inr, Option, Some, None, Result, Ok, Err, is_some, nat_le, Frame, RESPONSE, Status, KvRequest, Plain, VbCall, VbReply, States}
+use Rattle.transcript_law.proofs.Words.{ℕ, Bool, true, false, List, refl, ap, sym, ◌∙◌, subst, inl, inr, Option, Some, None, Result, Ok, Err, nat_le, Frame, RESPONSE, Status, KvRequest, Plain, VbCall, VbReply, States}
 use Rattle.transcript_law.proofs.Words.{after, after_job, bind_job, Done, Job, Ended, frame_handled, request_handled, plain_step, admin_call, admin_replied, admin_result, AdminCall, AdminResult, dial_bytes, promoted, promote_refusal, is_role, role_result, turn_row, in_role, ending_reply, refusal_reply, VbAnswer, Role}
 use Rattle.transcript_law.proofs.{lines.Calm.{AnyAsk}, invariant.Unopened.{NoNew, OpensNone, after_job_new, after_new, either, found_at_own, led_none, none_new, step_new}}
 use Rattle.transcript_law.specs.Feeding.{Has, HasIn}
@@ -11,13 +11,14 @@ use Rattle.mcbp_kv.specs.declared.request.KvRequest.TheVariants as request
 use Rattle.node_core.proofs.Conduct.{bytes_follow}
 use Rattle.node_core.specs.Admin.{role_at, role_noted}
 use Rattle.node_core.specs.Conduct.{FollowsAt, KeepsLink, RollsAt}
-use Rattle.node_core.specs.Dials.{PlainDial, acknowledged_result, dial_due, due_requested, due_met, due_of_reply, saved_of_reply, untold}
-use Rattle.node_core.specs.Flushing.{flush_at, flush_if, flush_result}
+use Rattle.node_core.proofs.Dues.{due_always}
+use Rattle.node_core.specs.Dials.{PlainDial, dial_due, untold}
+use Rattle.node_core.specs.Flushing.{flush_at, flush_result}
 use Rattle.node_core.specs.Loading.{start_job, start_result}
 use Rattle.vb_calls.proofs.JobConduct.{after_job_always, always_bind_job}
 use Rattle.vb_calls.specs.Flushes.{append_job, appended_job, batch_of_reply, done_job, flush_job, is_refusal, note_role_job, part_job, role_of_call, role_job, role_told_job, save_all_job, taken_job, took}
 use Rattle.vb_calls.specs.Jobs.{AlwaysJob, Call as AsksCall}
-use Rattle.vb_calls.specs.Programs.{Always, AnyReply, Call as ProgCall}
+use Rattle.vb_calls.specs.Programs.{Always, AnyReply}
 use Rattle.vb_calls.specs.Shelves.{DiskFailed, Fate, Flush, Idle, Out, Shelves, Stood, WasClosed, Written}
 use Rattle.vb_calls.specs.States.{call_at, states_step}
 use Rattle.vb_calls.specs.declared.calls.VbCall.TheVariants as call
@@ -26,7 +27,6 @@ use Rattle.vb_calls.specs.declared.journals.Wrote.TheVariants as wrote
 use Rattle.vb_types.specs.declared.journal.Batch.{Batch}
 use Rattle.vb_types.specs.declared.journal.FlushPart.{FlushPart}
 use Rattle.vb_types.specs.declared.journal.FlushPart.TheVariants as part
-use Rattle.dcp_consumer.specs.Machine.{is_streaming, may_acknowledge}
 use Rattle.node_core.specs.declared.admin.AdminCall.TheVariants as admin
 
 pub same_call : (v : ℕ) (c : VbCall) → OpensNone v c → OpensNone v c
@@ -87,11 +87,11 @@ part_quiet v part.All Idle = (tt, λ reply any. taken_quiet v (save_all_job v) (
 part_quiet v part.All (Out batch) = append_quiet v batch (done_job v batch.position.at) (done_quiet v batch.position.at)
 part_quiet v part.All (Written seq) = done_quiet v seq
 
-pub flush_quiet : (n v : ℕ) (p : FlushPart) (states : States) (shelves : Shelves) → NoNew states (after_job (flush_at n v p) states shelves).0.0
+pub flush_quiet : (n v : ℕ) (p : FlushPart) (there : Bool) (states : States) (shelves : Shelves) → NoNew states (after_job (flush_at n v p there) states shelves).0.0
 unfolding flush_job
-flush_quiet n v p states shelves = after_job_new OpensNone same_call AnyAsk (λ a. Unit {0}) (flush_at n v p) states shelves (tt, λ reply any. by (is_some reply))
+flush_quiet n v p there states shelves = after_job_new OpensNone same_call AnyAsk (λ a. Unit {0}) (flush_at n v p there) states shelves (by there)
   where
-    by : (b : Bool) → Quiet (flush_if n v p b)
+    by : (b : Bool) → Quiet (flush_at n v p b)
     by true = always_bind_job AnyReply OpensNone AnyAsk (λ a. Unit {0}) (λ a. Unit {0}) (flush_job v p) (λ came. Ended (flush_result n v came)) (tt, part_quiet v p) (λ came any. tt)
     by false = tt
 
@@ -107,11 +107,7 @@ fed_quiet piece dial states shelves =
     after_job_new (FollowsAt dial.consumer.dialed) (follows_quiet dial.consumer.dialed) (RollsAt dial.consumer.dialed) (KeepsLink (untold dial)) (dial_bytes piece dial) states shelves (bytes_follow piece dial)
 
 pub due_quiet : (dial : PlainDial) (states : States) → NoNew states (after (dial_due dial) states).0
-unfolding due_requested
-due_quiet dial states = after_new OpensNone same_call (λ a. Unit {0}) (dial_due dial) states (either (Always OpensNone (λ a. Unit {0})) (is_streaming dial.consumer.handshake) (ProgCall dial.consumer.dialed.vb call.Due (λ reply. due_met (untold dial) (due_of_reply reply))) (Done (untold dial)) (tt, λ reply any. met (due_of_reply reply)) tt)
-  where
-    met : (seq : ℕ) → Always OpensNone (λ a. Unit {0}) (due_met (untold dial) seq)
-    met seq = either (Always OpensNone (λ a. Unit {0})) (may_acknowledge seq dial.consumer) (ProgCall dial.consumer.dialed.vb call.Stat (λ reply. Done (acknowledged_result seq (untold dial) (saved_of_reply reply)))) (Done (untold dial)) (tt, λ reply any. tt) tt
+due_quiet dial states = after_new OpensNone same_call (λ a. Unit {0}) (dial_due dial) states (due_always (λ a. Unit {0}) (untold dial) (λ seq saved. tt) tt OpensNone tt)
 
 -- ---- roles
 

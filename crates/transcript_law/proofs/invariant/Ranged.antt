@@ -15,9 +15,9 @@ use Rattle.std.specs.Option.{option_map}
 use Rattle.vb_calls.proofs.{Conduct.{after_always}, Readings.{after_bind}}
 use Rattle.vb_calls.specs.Programs.{AnyCall, Done, Prog}
 use Rattle.{durability.specs.Chains.{Members}, node_world.specs.Cuts.{closed_at}, node_world.specs.declared.script_node.TheConstants.{MAX_CLIENTS}}
-use Rattle.node_core.specs.{Admin.{admin_refused}, Dials.{dial_due}, Flushing.{chain_changed, flush_at, ticked}, Loading.{are_short, starts_of}, Peers.{PeerResult, peer_answered, peer_frames, peer_heard}}
+use Rattle.node_core.specs.{Admin.{admin_refused}, Dials.{dial_due}, Flushing.{chain_changed, ticked}, Loading.{are_short, starts_of}, Peers.{PeerResult, peer_answered, peer_frames, peer_heard}}
 use Rattle.node_world.specs.{Arms.{fired_by, lifted, placed, under_arm}, Dues.{due_at, due_in, due_of, is_counted}, Links.{dial_of, frame_up, frames_up, moved_len, peer_of, untold_peer}, Turns.{posted_at, posted_in, role_called, turned}}
-use Rattle.node_world.specs.Nodes.{all_posted, awaiting, chain_causes, chain_line, chain_made, flush_line, hung_if, if_up, posted_if, posted_to, pull_at, pull_if, save_line, tick_line, with_clients_ended, with_kept}
+use Rattle.node_world.specs.Nodes.{flush_here, all_posted, awaiting, chain_causes, chain_line, chain_made, flush_line, hung_if, if_up, posted_if, posted_to, pull_at, pull_if, save_line, tick_line, with_clients_ended, with_kept}
 use Rattle.node_world.specs.World.{down_outcome, relinked}
 use Rattle.{disk_journals.specs.Arms.{opens_all}, disk_journals.specs.Books.{Book}, node_world.specs.Worlds.{arm_in, on_made}, vb_calls.specs.declared.calls.Resolved.{Resolved}, vb_types.specs.declared.journal.FlushPart.{FlushPart}}
 use Rattle.node_world.specs.Power.{after_broken, after_fire, all_cut, all_unlinked, burnt_arm, dropped, is_broken_answer, loaded_node, not_opened, start_at, start_books, start_if, start_one, started_by, starts_from, stopped_node, touches, with_arm, with_broken}
@@ -181,7 +181,7 @@ told_stays_ranged n rs node node' clock clients off ranged = posts_ranged n rs n
 
 pub flush_ranged : (n v : ℕ) (p : FlushPart) (node : PlainNode) → NodeRanged n node → NodeRanged n (flush_line n v p node).0
 flush_ranged n v p node ranged =
-    let x = after_job (flush_at n v p) node.vbs node.shelves in told_stays_ranged n x.1.resolved node (with_kept node x.0) refl (λ c. refl) refl ranged
+    let x = after_job (flush_here n v p node) node.vbs node.shelves in told_stays_ranged n x.1.resolved node (with_kept node x.0) refl (λ c. refl) refl ranged
 
 -- under the node's arm
 pub save_ranged : (n v : ℕ) (node : PlainNode) → NodeRanged n node → NodeRanged n (save_line n v node).0

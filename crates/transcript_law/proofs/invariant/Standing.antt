@@ -1,10 +1,10 @@
 -- the two ends of a link stand as they did, where what they speak of stays
 use Rattle.std.specs.Prelude.{◌≡◌, ◌⊎◌, ◌<◌, ◌≤◌, ◌+◌, ◌*◌, ◌^◌, ◌==◌}
-use Rattle.transcript_law.proofs.Words.{ℕ, Bool, true, false, List, arith, refl, ap, sym, ◌∙◌, subst, inl, inr, ⊎_elim, Option, Some, None, All, Frame, Role, Member, Stream}
+use Rattle.transcript_law.proofs.Words.{is_some, ℕ, Bool, true, false, List, arith, refl, ap, sym, ◌∙◌, subst, inl, inr, ⊎_elim, Option, Some, None, All, Frame, Role, Member, Stream}
 use Rattle.transcript_law.proofs.Words.{Plain, is_active, is_follower, stream_at, PlainStream, PlainLink, Granted, Covers, PlainProducer, PlainConsumer, Begun, item_of_change, map, drop, take, [], fork_of}
 use Rattle.{takeover.specs.declared.take_over.TakeOver.{TakeOver}, takeover.specs.declared.take_over.TakeStep.{TakeStep}}
 use Rattle.transcript_law.proofs.invariant.Agreement.{ChangeFits, FeederIn, FollowsBy, GivenUp, Handing, Heir, OpenYet, end_frames, end_reason, follows_in, stated_in, IsLow, kept_stream, spoken, Streaming, Talk, top, Wants, wants_of, EndsStand, Open, BegunAgrees, items_frames}
-use Rattle.{transcript_law.specs.Feeding.{HasOpen, IsOpenAt}, vb_types.specs.declared.position.Position.{Position}, vb_types.specs.declared.role.Role.TheVariants.{Active, Dead}}
+use Rattle.{transcript_law.proofs.links.Sources.{ItemsFit}, transcript_law.specs.Feeding.{HasOpen, IsOpenAt}, vb_types.specs.declared.position.Position.{Position}, vb_types.specs.declared.role.Role.TheVariants.{Active, Dead}}
 
 -- who takes writes follows nobody
 pub active_feeds : (r : Role) → is_active r ≡ true → is_follower r ≡ false
@@ -83,6 +83,7 @@ none_open streams e v id has = absurd (subst (HasOpen v id) e has)
 pub record SameStream (x y : PlainStream) : Type 0 where
   pub id : y.id ≡ x.id
   pub until : y.until ≡ x.until
+  pub first : y.first ≡ x.first
   pub marked : y.marked ≡ x.marked
   pub vb : y.vb ≡ x.vb
   pub opaque : y.opaque ≡ x.opaque
@@ -92,7 +93,7 @@ pub record SameStream (x y : PlainStream) : Type 0 where
   pub ended : x.ended ≡ true → y.ended ≡ true
 
 pub stream_same : {x : PlainStream} → SameStream x x
-stream_same = record { id = refl; until = refl; marked = refl; vb = refl; opaque = refl; items = refl; next = refl; gives = refl; ended = λ e. e }
+stream_same = record { id = refl; until = refl; first = refl; marked = refl; vb = refl; opaque = refl; items = refl; next = refl; gives = refl; ended = λ e. e }
 
 -- a stream goes on, or has ended now
 abbrev pub streaming_again : {fv : Wants} {kn : Member} {pv pv' : Option Plain} {leader leader' : Member} {g : Option Granted} {served : PlainProducer} {asker : PlainConsumer} {up down : List Frame} (a : Streaming fv kn pv leader g served asker up down)
@@ -120,6 +121,7 @@ streaming_again {served = served} {asker} a streams stream same is opens =
       };
       feed = a.feed;
       fed = a.fed;
+      sources = a.sources;
       log_fits = a.log_fits;
       seen = a.seen;
       taking = a.taking;
@@ -128,6 +130,8 @@ streaming_again {served = served} {asker} a streams stream same is opens =
           vb_is = same.vb ∙ x.vb_is;
           opaque_is = same.opaque ∙ x.opaque_is;
           no_end = record { until = subst (λ n. top < n) (sym same.until) x.no_end.until; marked = subst IsLow (sym same.marked) x.no_end.marked };
+          first_is = same.first ∙ x.first_is;
+          marked_is = ap is_some same.marked ∙ x.marked_is;
           fits = subst (All ChangeFits) (sym same.items) x.fits;
           next_in = rw same.next (rw same.items x.next_in);
           last = by a.granted_is.last x.last;
@@ -146,7 +150,7 @@ streaming_again {served = served} {asker} a streams stream same is opens =
   where
     by : (q : Option Begun) → BegunAgrees q a.stream → BegunAgrees q stream
     by None e = same.items ∙ e
-    by (Some b) e = (subst (λ xs. Covers xs b.history b.from b.end) (sym same.items) e.0, e.1 ∙ (λ i. map item_of_change (take (sym same.next i) (sym same.items i))))
+    by (Some b) e = (subst (λ xs. Covers xs b.history b.from b.end) (sym same.items) e.0, e.1 ∙ (λ i. map item_of_change (take (sym same.next i) (sym same.items i))), subst (ItemsFit b) (sym same.items) e.2)
 
 -- so the ends stand, where lines tell of the same state
 pub stands_again : {fv : Wants} {kn : Member} {pv pv' : Option Plain} {leader leader' : Member} {g : Option Granted} {said : Option Role} {point : Option ℕ} {served : PlainProducer} {asker : PlainConsumer} {up down : List Frame} (a : Streaming fv kn pv leader g served asker up down)

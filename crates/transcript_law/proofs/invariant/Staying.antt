@@ -8,7 +8,7 @@ use Rattle.mcbp_frame.specs.declared.frame.Frame.{Frame}
 use Rattle.node_core.specs.Admin.{admin_job}
 use Rattle.node_core.specs.Clients.{PlainClient, client_fed, client_posted, new_client}
 use Rattle.node_core.specs.Dials.{dial_bytes, dial_due}
-use Rattle.node_core.specs.{Flushing.{flush_at}, GivingUp.{dead_line, peer_gives_up, resolved_in}}
+use Rattle.node_core.specs.{GivingUp.{dead_line, peer_gives_up, resolved_in}}
 use Rattle.std.specs.List.{flat_map}
 use Rattle.std.specs.Prelude.{map}
 use Rattle.node_core.specs.Peers.{PeerResult, peer_answered, peer_frames, peer_heard, peer_pulled}
@@ -19,7 +19,7 @@ use Rattle.node_world.specs.Arms.{fired_by, fuse_or, placed, under_arm}
 use Rattle.node_world.specs.Cuts.{closed_at, links_ended, own_link, unlinked}
 use Rattle.node_world.specs.Dues.{due_at, due_in, due_of, is_counted}
 use Rattle.node_world.specs.Links.{PlainLink, LinkResult, dial_of, down_at, frame_up, frames_up, link_number, moved_len, peer_of, producer_node, consumer_node, pump_at, untold_peer, up_at}
-use Rattle.node_world.specs.Nodes.{PlainNode, all_posted, awaiting, bytes_at, bytes_if, client_at, done, flush_line, if_up, posted, posted_if, posted_to, refusal, refused_or, save_line, with_client, with_kept, with_states}
+use Rattle.node_world.specs.Nodes.{flush_here, PlainNode, all_posted, awaiting, bytes_at, bytes_if, client_at, done, flush_line, if_up, posted, posted_if, posted_to, refusal, refused_or, save_line, with_client, with_kept, with_states}
 use Rattle.node_world.specs.Power.{after_broken, after_fire, is_broken_answer, with_arm, with_broken}
 use Rattle.node_world.specs.Rests.{RestsIf}
 use Rattle.node_world.specs.{Nodes.{with_clients_ended}, Pumps.{gives_at, with_given, with_gone}, Turns.{admin_line, posted_at, posted_in, with_ended}}
@@ -151,8 +151,8 @@ admin_stays n v asked node = job_stays (admin_job n v asked) node
 
 pub flush_stays : (n v : ℕ) (p : FlushPart) (node : PlainNode) → Stays node (flush_line n v p node).0
 flush_stays n v p node =
-    let came = after_job (flush_at n v p) node.vbs node.shelves in
-    onward node (with_kept node came.0) (flush_line n v p node).0 (job_stays (flush_at n v p) node) (posts_stay came.1.resolved (with_kept node came.0))
+    let came = after_job (flush_here n v p node) node.vbs node.shelves in
+    onward node (with_kept node came.0) (flush_line n v p node).0 (job_stays (flush_here n v p node) node) (posts_stay came.1.resolved (with_kept node came.0))
 
 -- the frames of a link, for its producer and for its consumer
 frames_stay : (fs : List Frame) (came : PlainNode × PeerResult) → Stays came.0 (frames_up fs came).0

@@ -1,6 +1,6 @@
 -- the calls of clients, of a producer, of an operator and of writing down are such that a vBucket stays sound at them, whatever is replied
 use Rattle.std.specs.Prelude.{◌≡◌, ◌<◌, ◌^◌, ◌==◌, ◌&&◌, if◌then◌else◌, nat_le, nat_lt}
-use Rattle.transcript_law.proofs.Words.{ℕ, Bool, true, false, Option, Some, None, is_some, Result, Ok, Err, Frame, KvRequest, RESPONSE, Status, PlainStream, PlainProducer, AdminCall, VbCall, VbReply, DialResult, Prog, Call, Done, bind, Job, Ended, bind_job}
+use Rattle.transcript_law.proofs.Words.{ℕ, Bool, true, false, Option, Some, None, Result, Ok, Err, Frame, KvRequest, RESPONSE, Status, PlainStream, PlainProducer, AdminCall, VbCall, VbReply, Prog, Call, Done, bind, Job, Ended, bind_job}
 use Rattle.transcript_law.proofs.Words.{request_handled, frame_handled, frame_answered, frames_put, end_closed, streams_closed, peer_pulled}
 use Rattle.client_session.proofs.{Conduct.{either}, Keeping.{front_of}}
 use Rattle.client_session.specs.Serving.{MOST_DURABLE, Served as Session, deadline_of, durable_called, frame_answered as served_by, handed, is_dcp, next_waiter, refused}
@@ -11,12 +11,12 @@ use Rattle.mcbp_kv.specs.declared.request.KvRequest.TheVariants as request
 use Rattle.node_core.proofs.Handlings.{fed_keeps, posted_keeps}
 use Rattle.node_core.specs.Admin.{admin_job, role_noted}
 use Rattle.node_core.specs.Clients.{Handling, PlainClient, client_fed, client_posted, client_pull, client_pulled}
-use Rattle.node_core.specs.Dials.{PlainDial, acknowledged_result, dial_due, due_requested, due_met, due_of_reply, saved_of_reply, untold}
-use Rattle.node_core.specs.Flushing.{chain_changed, flush_at, flush_if, flush_result, ticked}
+use Rattle.node_core.proofs.Dues.{due_always}
+use Rattle.node_core.specs.Dials.{PlainDial, dial_due, untold}
+use Rattle.node_core.specs.Flushing.{chain_changed, flush_at, flush_result, ticked}
 use Rattle.node_core.specs.Loading.{start_job, start_result}
 use Rattle.node_core.specs.Peers.{PlainPeer, peer_answered, peer_result, pull_result}
 use Rattle.node_core.specs.declared.admin.AdminCall.TheVariants as admin
-use Rattle.dcp_consumer.specs.Machine.{is_streaming, may_acknowledge}
 use Rattle.vb_calls.proofs.{Conduct.{always_bind, always_each, always_so}, JobConduct.{always_bind_job}}
 use Rattle.vb_calls.specs.Flushes.{append_job, appended_job, batch_of_reply, done_job, flush_job, is_refusal, note_role_job, part_job, role_of_call, role_job, role_told_job, save_all_job, taken_job, took}
 use Rattle.vb_calls.specs.Jobs.{AlwaysJob}
@@ -159,18 +159,11 @@ pull_tame k client = pull_makes IsTimely timely_takes k client
 
 -- ---- a dial whose vBucket has more written down
 
-module _ (kind : VbCall → Type 0) (stats : kind call.Stat) (dues : kind call.Due) where
-  met_makes : (s : DialResult) (seq : ℕ) → Makes kind (due_met s seq)
-  met_makes s seq = either (λ (p : Prog DialResult). Makes kind p) (may_acknowledge seq s.dial.consumer) (Call s.dial.consumer.dialed.vb call.Stat (λ reply. Done (acknowledged_result seq s (saved_of_reply reply)))) (Done s) (stats, λ reply any. tt) tt
-
-  pub due_makes : (dial : PlainDial) → Makes kind (dial_due dial)
-  unfolding due_requested
-  due_makes dial =
-      let s : DialResult = untold dial in
-      either (λ (p : Prog DialResult). Makes kind p) (is_streaming s.dial.consumer.handshake) (Call s.dial.consumer.dialed.vb call.Due (λ reply. due_met s (due_of_reply reply))) (Done s) (dues, λ reply any. met_makes s (due_of_reply reply)) tt
+pub due_makes : (kind : VbCall → Type 0) → kind call.Due → (dial : PlainDial) → Makes kind (dial_due dial)
+due_makes kind dues dial = due_always (λ a. Unit {0}) (untold dial) (λ seq saved. tt) tt (λ v made. kind made) dues
 
 pub due_tame : (dial : PlainDial) → Tame (dial_due dial)
-due_tame dial = due_makes IsTimely tt tt dial
+due_tame dial = due_makes IsTimely tt dial
 
 -- ---- chains and clocks
 
@@ -215,13 +208,10 @@ part_tame v part.All Idle = (tt, λ reply any. taken_tame v (save_all_job v) (al
 part_tame v part.All (Out batch) = all_tame v batch
 part_tame v part.All (Written seq) = done_tame v seq
 
-flush_if_tame : (n v : ℕ) (p : FlushPart) (there : Bool) → TameJob (flush_if n v p there)
+pub flush_tame : (n v : ℕ) (p : FlushPart) (there : Bool) → TameJob (flush_at n v p there)
 unfolding flush_job
-flush_if_tame n v p true = tame_bind_job (flush_job v p) (λ came. Ended (flush_result n v came)) (tt, λ flush. part_tame v p flush) (λ came. tt)
-flush_if_tame n v p false = tt
-
-pub flush_tame : (n v : ℕ) (p : FlushPart) → TameJob (flush_at n v p)
-flush_tame n v p = (tt, λ reply any. flush_if_tame n v p (is_some reply))
+flush_tame n v p true = tame_bind_job (flush_job v p) (λ came. Ended (flush_result n v came)) (tt, λ flush. part_tame v p flush) (λ came. tt)
+flush_tame n v p false = tt
 
 -- ---- an operator's calls, and those of a start
 

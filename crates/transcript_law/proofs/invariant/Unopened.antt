@@ -14,10 +14,11 @@ use Rattle.vb_calls.specs.State.{pending_of}
 use Rattle.vb_calls.specs.Shelves.{Ask, Got, Shelves, shelves_step}
 use Rattle.vb_calls.specs.States.{call_at, states_step}
 use Rattle.vb_calls.specs.Roles.{risen}
-use Rattle.vb_calls.specs.Streams.{moved_on, stream_at}
+use Rattle.vb_calls.proofs.Placing.{cursor_id, given_id, moved_id}
+use Rattle.vb_calls.specs.Streams.{given_cursor, moved_on, stream_at, without_cursor}
 use Rattle.vb_calls.specs.declared.calls.Resolution.{Resolution}
 use Rattle.vb_calls.specs.declared.calls.VbCall.TheVariants as call
-use Rattle.vbucket.proofs.RowIs.{RowIs, StartIs, StreamsAre, Closes, Expires, Feeds, Inherits, Leads, Opens, Settles, Streams, Turns, Yields, row_is}
+use Rattle.vbucket.proofs.RowIs.{RowIs, StartIs, StreamsAre, Closes, Drops, Expires, Feeds, Inherits, Leads, Opens, Places, Settles, Streams, Turns, Yields, row_is}
 
 -- any call but that
 abbrev pub OpensNone : ℕ → VbCall → Type 0
@@ -64,12 +65,10 @@ closed_has i id (s ∷ ss) h = by (closed_has i id ss) (s.id == i) refl h
     by more true e j = let p = more j in (inr p.0, p.1)
     by more false e j = ⊎_elim (λ q. (inl q, λ f. eqb-false s.id i e (q ∙ f))) (λ k. let p = more k in (inr p.0, p.1)) j
 
-moved_has : (i end id : ℕ) (ss : List Stream) → Has (map (moved_on i end) ss) id → Has ss id
-moved_has i end id [] h = absurd h
-moved_has i end id (s ∷ ss) h = ⊎_elim (λ e. inl (sym same ∙ e)) (λ k. inr (moved_has i end id ss k)) h
-  where
-    same : (moved_on i end s).id ≡ s.id
-    same = either (λ (t : Stream). t.id ≡ s.id) (s.id == i) (record { id = s.id; ask = s.ask; sync = s.sync; place = end; taken = true }) s refl refl
+-- streams that are changed and keep their numbers
+changed_has : (f : Stream → Stream) → ((s : Stream) → (f s).id ≡ s.id) → (id : ℕ) (ss : List Stream) → Has (map f ss) id → Has ss id
+changed_has f keeps id [] h = absurd h
+changed_has f keeps id (s ∷ ss) h = ⊎_elim (λ e. inl (sym (keeps s) ∙ e)) (λ k. inr (changed_has f keeps id ss k)) h
 
 settled_less : (vb new : Plain) → new.streams ≡ vb.streams → NoMore vb (settled new).vb
 settled_less vb new e = same_more vb (settled new).vb (after_settled new ∙ e)
@@ -98,8 +97,10 @@ found_has id (x ∷ xs) s e = by (found_has id xs s) (x.id == id) e
 
 module _ (vb : Plain) where
   streams_less : (v : ℕ) {c : VbCall} {streams : List Stream} {said : VbAnswer} → StreamsAre vb c streams said → OpensNone v c → NoMore vb (record vb { streams = streams })
-  streams_less v (Opens id ask sync) q = absurd q
-  streams_less v (Feeds i s w) q = λ id h. moved_has s.id w.last id vb.streams h
+  streams_less v (Opens id ask sync free) q = absurd q
+  streams_less v (Places i s found none near) q = λ id h. changed_has (given_cursor s.id) (given_id s.id) id vb.streams h
+  streams_less v (Feeds i s w found has ends) q = λ id h. changed_has (moved_on s.id w.last) (moved_id s.id w.last) id vb.streams h
+  streams_less v (Drops i) q = λ id h. changed_has (without_cursor i) (cursor_id false i) id vb.streams h
   streams_less v (Closes i) q = λ id h. (closed_has i id vb.streams h).0
 
   start_less : {c : VbCall} {start : Plain × VbReply} → StartIs vb c start → NoMore vb (and_settled start).0

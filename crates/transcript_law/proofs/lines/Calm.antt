@@ -1,13 +1,14 @@
 -- lines that tell of no arm, and of no rollback but where a link's bytes are taken: those of connections, links and streams, whatever the replies of vBuckets and journals
 use Rattle.std.specs.Prelude.{◌≡◌, ◌∷◌, ◌++◌, if◌then◌else◌}
 use Rattle.transcript_law.proofs.Words.{ℕ, Bool, true, false, List, [], refl, ap, ◌∙◌, take, map, Told, Answer, Cause, flat_map, filter-append, Option, Some, None, Event, EndReason, VbCall, Frame, FrameFault, States, after, front_fault, frames_in, with_states, LogEntry, StreamAsk, VbAnswer, VbReply, PlainLink, PlainNode}
-use Rattle.transcript_law.proofs.Words.{Done, peer_of, dial_of, moved_len, up_at, pump_at, bytes_at, bytes_if, StreamName}
+use Rattle.transcript_law.proofs.Words.{peer_of, dial_of, moved_len, up_at, pump_at, bytes_at, bytes_if, StreamName}
 use Rattle.dcp_consumer.specs.declared.handshake.Dialed.{Dialed}
 use Rattle.node_core.specs.Flushing.{FlushResult}
 use Rattle.node_core.specs.Peers.{PeerResult, PlainPeer, peer_answered, peer_frames, peer_heard}
-use Rattle.node_core.specs.Dials.{DialResult, PlainDial, acknowledged_line, adopt_result, again_result, bytes_counted, with_last_line, requested_once_more, bytes_taken, call_made, dial_due, dial_bytes, due_requested, due_met, due_of_reply, with_end_line, fault_met, follower_ask, frame_taken, frames_taken, go_on_with, got_line, granted_with, heir_told, is_broken, is_done, is_done_answer, is_over, is_pending, message_result, noted_for, own_result, owned, pended, role_line, state_made, state_met, with_line, over_for, passive_made, rest_met as dial_met, roll_back, rolled_back, saved_of_reply, step_made, taken_as, untold, with_consumer}
+use Rattle.node_core.proofs.Dues.{due_always}
+use Rattle.node_core.specs.Dials.{DialResult, PlainDial, acknowledged_line, adopt_result, again_result, bytes_counted, with_last_line, requested_once_more, bytes_taken, call_made, dial_due, dial_bytes, due_requested, with_end_line, fault_met, follower_ask, frame_taken, frames_taken, go_on_with, got_line, granted_with, heir_told, is_broken, is_done, is_done_answer, is_over, is_pending, message_result, noted_for, own_result, owned, pended, role_line, state_made, state_met, with_line, over_for, passive_made, rest_met as dial_met, roll_back, rolled_back, step_made, taken_as, untold, with_consumer}
 use Rattle.node_core.specs.Dials.{with_left as with_heard}
-use Rattle.dcp_consumer.specs.Machine.{consumer_step, is_streaming, may_acknowledge, over_why}
+use Rattle.dcp_consumer.specs.Machine.{consumer_step, over_why}
 use Rattle.dcp_consumer.specs.Counting.{bytes_acknowledged, counted_bytes}
 use Rattle.dcp_consumer.specs.declared.handshake.ConsumerStep.{ConsumerStep}
 use Rattle.dcp_consumer.specs.declared.handshake.ConsumerStep.TheVariants as step
@@ -223,11 +224,7 @@ module _ (P : DialResult → Type 0)
 -- what it acknowledges, where no line of that matters
 module _ (P : List Event → Type 0) (acks : (lines : List Event) (d : Dialed) (seq saved : ℕ) → P lines → P (lines ++ acknowledged_line d seq saved ∷ [])) where
   pub due_keeps : (s : DialResult) → P s.events → Always AnyCall (λ (t : DialResult). P t.events) (due_requested s)
-  unfolding due_requested
-  due_keeps s p = either (Always AnyCall (λ (t : DialResult). P t.events)) (is_streaming s.dial.consumer.handshake) _ (Done s) (tt, λ reply any. met (due_of_reply reply)) p
-    where
-      met : (seq : ℕ) → Always AnyCall (λ (t : DialResult). P t.events) (due_met s seq)
-      met seq = either (Always AnyCall (λ (t : DialResult). P t.events)) (may_acknowledge seq s.dial.consumer) _ (Done s) (tt, λ reply any. acks s.events s.dial.consumer.dialed seq (saved_of_reply reply) p) p
+  due_keeps s p = due_always (λ (t : DialResult). P t.events) s (λ seq saved. acks s.events s.dial.consumer.dialed seq saved p) p AnyCall tt
 
 due_calm : (s : DialResult) → Dial s → Always AnyCall Dial (due_requested s)
 due_calm s c = due_keeps Still (λ lines d seq saved still. still_more lines (acknowledged_line d seq saved ∷ []) still refl) s c

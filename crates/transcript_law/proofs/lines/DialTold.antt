@@ -1,9 +1,10 @@
 -- lines of a link's consumer tell of the vBucket that it was dialed for, and of that link alone, whatever the replies of vBuckets and journals
 use Rattle.std.specs.Prelude.{◌≡◌, ◌∷◌, ◌++◌, ◌-◌, ◌^◌, nat_lt, if◌then◌else◌}
 use Rattle.transcript_law.proofs.Words.{ℕ, Bool, true, false, List, [], refl, sym, ◌∙◌, subst, take, map, Option, Some, None, Event, EndReason, Change, Frame, FrameFault, front_fault, frames_in, LogEntry, StreamAsk, StreamName, VbReply, VbAnswer, PlainLink, PlainNode, States, after, dial_of, moved_len}
-use Rattle.node_core.specs.Dials.{DialResult, PlainDial, acknowledged_line, adopt_result, again_result, bytes_counted, bytes_taken, call_made, dial_bytes, dial_due, due_met, due_of_reply, due_requested, fault_met, follower_ask, frame_taken, frames_taken, go_on_with, got_line, granted_with, is_broken, is_done, is_over, message_result, over_for, passive_made, requested_once_more, rest_met as dial_met, roll_back, rolled_back, saved_of_reply, step_made, taken_as, untold, with_consumer, with_end_line, with_last_line}
+use Rattle.node_core.proofs.Dues.{due_always}
+use Rattle.node_core.specs.Dials.{DialResult, PlainDial, acknowledged_line, adopt_result, again_result, bytes_counted, bytes_taken, call_made, dial_bytes, dial_due, due_requested, fault_met, follower_ask, frame_taken, frames_taken, go_on_with, got_line, granted_with, is_broken, is_done, is_over, message_result, over_for, passive_made, requested_once_more, rest_met as dial_met, roll_back, rolled_back, step_made, taken_as, untold, with_consumer, with_end_line, with_last_line}
 use Rattle.node_core.specs.Dials.{with_left as with_heard}
-use Rattle.dcp_consumer.specs.Machine.{PlainConsumer, again_by, consumer_step, ended_for, is_streaming, may_acknowledge, over_why, request_again, streaming}
+use Rattle.dcp_consumer.specs.Machine.{PlainConsumer, again_by, consumer_step, ended_for, over_why, request_again, streaming}
 use Rattle.dcp_consumer.specs.Counting.{bytes_acknowledged, counted_bytes}
 use Rattle.dcp_consumer.specs.declared.handshake.ConsumerStep.{ConsumerStep}
 use Rattle.dcp_consumer.specs.declared.handshake.ConsumerStep.TheVariants as step
@@ -21,7 +22,7 @@ use Rattle.vb_calls.specs.declared.journals.Rolled.{Rolled}
 use Rattle.vb_calls.specs.declared.journals.Rolled.TheVariants as rolled
 use Rattle.vb_calls.specs.Flushes.{roll_job}
 use Rattle.vb_calls.specs.Jobs.{AlwaysJob, Job, Ended, each_job, lift}
-use Rattle.vb_calls.specs.Programs.{Always, AnyCall, AnyReply, Done}
+use Rattle.vb_calls.specs.Programs.{Always, AnyCall, AnyReply}
 use Rattle.vb_calls.proofs.Conduct.{after_always}
 use Rattle.vb_calls.proofs.JobConduct.{after_job_always, always_bind_job, always_each_job, always_lift}
 
@@ -54,12 +55,7 @@ module _ (q : Event → Bool) (d : Dialed) (E : Handshake → Type 0) (acks : (s
 
   -- what it acknowledges
   asks_so : (s : DialResult) → Dial s → Always AnyCall Dial (due_requested s)
-  unfolding due_requested
-  asks_so s c = either (Always AnyCall Dial) (is_streaming s.dial.consumer.handshake) _ (Done s) (tt, λ reply any. met (due_of_reply reply)) c
-    where
-      met : (seq : ℕ) → Always AnyCall Dial (due_met s seq)
-      met seq = either (Always AnyCall Dial) (may_acknowledge seq s.dial.consumer) _ (Done s)
-          (tt, λ reply any. (line_more s.events (λ (k : Dialed). acknowledged_line k seq (saved_of_reply reply)) s.dial.consumer.dialed c.0 c.1 (acks seq (saved_of_reply reply)), c.1, c.2)) c
+  asks_so s c = due_always Dial s (λ seq saved. (line_more s.events (λ (k : Dialed). acknowledged_line k seq saved) s.dial.consumer.dialed c.0 c.1 (acks seq saved), c.1, c.2)) c AnyCall tt
 
   -- once more is written down
   pub due_so : (dial : PlainDial) (states : States) → dial.consumer.dialed ≡ d → E dial.consumer.handshake → Are q (after (dial_due dial) states).1.events

@@ -54,7 +54,7 @@ quiet_lawful r (Event.Asked (StreamName.Client n c) m v ask high log said) behin
   frame = stands_more n c _ behind more l.frame;
 }
 quiet_lawful r (Event.Marked (StreamName.Link k) start end flags) behind more q l = l
-quiet_lawful r (Event.Marked (StreamName.Client n c) start end flags) behind more q l = record { put = put_more n c (r.clients_at n c) _ behind more l.put; memory = l.memory; marker = l.marker }
+quiet_lawful r (Event.Marked (StreamName.Client n c) start end flags) behind more q l = record { put = put_more n c (r.clients_at n c) _ behind more l.put; source = l.source; marker = l.marker }
 quiet_lawful r (Event.Item (StreamName.Link k) seq act key) behind more q l = l
 quiet_lawful r (Event.Item (StreamName.Client n c) seq act key) behind more q l = record {
   change = l.change;
@@ -66,6 +66,7 @@ quiet_lawful r (Event.Item (StreamName.Client n c) seq act key) behind more q l 
   shown = l.shown;
   held = l.held;
   next = l.next;
+  unreplaced = l.unreplaced;
 }
 quiet_lawful r (Event.Finished (StreamName.Link k) reason) behind more q l = l
 quiet_lawful r (Event.Finished (StreamName.Client n c) reason) behind more q l = record { put = put_more n c (r.clients_at n c) _ behind more l.put; opens = l.opens; whole = l.whole; cause = l.cause }

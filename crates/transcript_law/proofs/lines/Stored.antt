@@ -16,7 +16,7 @@ use Rattle.vb_calls.specs.declared.calls.VbCall.TheVariants as call
 use Rattle.vb_types.specs.declared.change.Act.TheVariants as act
 use Rattle.vb_types.specs.declared.write.Op.{Op}
 use Rattle.vb_types.specs.declared.write.Op.TheVariants as op
-use Rattle.vbucket.proofs.RowIs.{RowIs, StartIs, Adopts, Chains, Counts, Expires, Flushes, Inherits, Leads, Marks, Prepares, Receives, Rolls, Saves, Seals, Settles, Streams, Tells, Turns, Writes, Yields, row_is}
+use Rattle.vbucket.proofs.RowIs.{RowIs, StartIs, Adopts, Chains, Counts, Expires, Flushes, Inherits, Leads, Marks, Prepares, Receives, Rolls, Saves, Seals, Settles, Streams, Tells, Trims, Turns, Writes, Yields, row_is}
 
 -- ---- lines
 
@@ -98,6 +98,7 @@ row_durable vb (Streams c streams said is) o = All-nil OfDurable
 row_durable vb (Adopts log f) o = All-nil OfDurable
 row_durable vb (Marks start end f fits) o = All-nil OfDurable
 row_durable vb (Seals was) o = All-nil OfDurable
+row_durable vb Trims o = All-nil OfDurable
 row_durable vb (Flushes w e) o = All-nil OfDurable
 row_durable vb (Writes write clock free) o = absurd o
 row_durable vb (Receives c a f next e) o = absurd o

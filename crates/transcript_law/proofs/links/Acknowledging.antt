@@ -13,8 +13,8 @@ use Rattle.transcript_law.specs.{Chronicles.{acknowledging}, Lawfulness.{SavesTh
 use Rattle.branch_model.specs.Snapshots.{Follows}
 use Rattle.{dcp_consumer.specs.Machine.{acknowledged, is_streaming, may_acknowledge}}
 use Rattle.{durability.proofs.Dues.{due_complete, due_thirds}, durability.specs.Laws.{IsPending}, durability.specs.Pending.{due}, vb_calls.specs.Durable.{pending_prepares}, vbucket.proofs.Backing.{Entry, IsEntry, found_entry}}
-use Rattle.node_core.specs.Dials.{acknowledged_result, due_requested, due_met, due_of_reply, saved_of_reply}
-use Rattle.vb_calls.specs.declared.calls.VbAnswer.TheVariants.{Num}
+use Rattle.node_core.specs.Dials.{acknowledged_result, due_requested, due_met, dues_of_reply}
+use Rattle.vb_calls.specs.declared.calls.VbAnswer.TheVariants.{Dues}
 use Rattle.vb_calls.specs.declared.calls.VbCall.TheVariants as call
 use Rattle.vb_types.specs.declared.status.Status.TheVariants.{NotMyVbucket}
 
@@ -134,6 +134,7 @@ module _ (link : PlainLink) (seq : ℕ) (up : List ℕ) (wrote : up ≡ link.up 
       };
       feed = x.feed;
       fed = x.fed;
+      sources = x.sources;
       log_fits = x.log_fits;
       seen = x.seen;
       taking = record {
@@ -264,7 +265,7 @@ entry_waits (x ∷ es) e i = ⊎_elim (λ s. inl (ap (λ (y : Entry). y.1) s)) (
 -- a link that is over acknowledges nothing, nor one whose stream was not granted
 pub due_none : (s : DialResult) → is_streaming s.dial.consumer.handshake ≡ false → due_requested s ≡ Done s
 unfolding due_requested
-due_none s e = ap (λ b. if b then Call s.dial.consumer.dialed.vb call.Due (λ reply. due_met s (due_of_reply reply)) else Done s) e
+due_none s e = ap (λ b. if b then Call s.dial.consumer.dialed.vb call.Due (λ reply. Done (due_met s (dues_of_reply reply))) else Done s) e
 
 module _ (states : States) (fv : Plain) (s : DialResult) (known : states s.dial.consumer.dialed.vb ≡ Some fv) (follows : is_follower fv.role ≡ true) (sound : Sound fv) where
   abbrev v : ℕ
@@ -291,36 +292,27 @@ module _ (states : States) (fv : Plain) (s : DialResult) (known : states s.dial.
       let b : fork_of fv.position ≤ fv.position.at = fork_low fv.position sound.within.0 in let c : fv.position.at ≤ fv.position.se = sound.within.1 in let d : fv.position.se ≤ 2 ^ 48 = sound.capped in
       omega arith
 
-  asked_on : after (Call v call.Due (λ reply. due_met s (due_of_reply reply))) states ≡ after (due_met s number) states
-  asked_on = ap (λ o. let y = call_at states v call.Due o in after (due_met s (due_of_reply y.1)) y.0) known
-      ∙ ap (λ b. after (due_met s (due_of_reply (Some (if b then quiet_reply (Num number) else refusal_reply NotMyVbucket)))) (with_vb_at states v fv)) follows
-      ∙ ap (after (due_met s number)) same
+  asked_on : after (Call v call.Due (λ reply. Done (due_met s (dues_of_reply reply)))) states ≡ (states, due_met s (Some (number, fv.saved)))
+  asked_on = ap (λ o. let y = call_at states v call.Due o in (y.0, due_met s (dues_of_reply y.1))) known
+      ∙ ap (λ b. (with_vb_at states v fv, due_met s (dues_of_reply (Some (if b then quiet_reply (Dues number fv.saved) else refusal_reply NotMyVbucket))))) follows
+      ∙ ap (λ st. (st, due_met s (Some (number, fv.saved)))) same
 
   met : (b : Bool) → may_acknowledge number s.dial.consumer ≡ b → is_streaming s.dial.consumer.handshake ≡ true
-      → DueCame states fv s (after (if b then Call v call.Stat (λ reply. Done (acknowledged_result number s (saved_of_reply reply))) else Done s) states)
+      → DueCame states fv s (states, if b then acknowledged_result number s fv.saved else s)
   met false e granted = DueCame.IsSilent (λ g. low_enough (nat_lt s.dial.consumer.acked number) refl (ap (λ b. b && nat_lt s.dial.consumer.acked number) (sym granted) ∙ e)) refl
     where
       low_enough : (b : Bool) → nat_lt s.dial.consumer.acked number ≡ b → b ≡ false → number ≤ s.dial.consumer.acked
       low_enough true t f = cc
       low_enough false t f = grind (arith, nat_tests, t)
-  met true e granted = DueCame.IsAcked number refl granted number_low number_complete number_thirds
-      (ap (λ o. let y = call_at states v call.Stat o in (y.0, acknowledged_result number s (saved_of_reply y.1))) known ∙ ap (λ st. (st, acknowledged_result number s fv.saved)) same)
+  met true e granted = DueCame.IsAcked number refl granted number_low number_complete number_thirds refl
 
-  asks_due : (b : Bool) → is_streaming s.dial.consumer.handshake ≡ b → DueCame states fv s (after (if b then Call v call.Due (λ reply. due_met s (due_of_reply reply)) else Done s) states)
+  asks_due : (b : Bool) → is_streaming s.dial.consumer.handshake ≡ b → DueCame states fv s (after (if b then Call v call.Due (λ reply. Done (due_met s (dues_of_reply reply))) else Done s) states)
   asks_due false e = DueCame.IsSilent (λ g. let z : true ≡ false = sym g ∙ e in cc) refl
   asks_due true e = subst (DueCame states fv s) (sym asked_on) (met (may_acknowledge number s.dial.consumer) refl e)
 
   pub due_came : DueCame states fv s (after (due_requested s) states)
   unfolding due_requested
   due_came = asks_due (is_streaming s.dial.consumer.handshake) refl
-
--- no number is below the first
-none_below : (n : ℕ) → nat_lt n 0 ≡ false
-none_below n = grind (arith, nat_tests)
-
-never : (b : Bool) → (b && false) ≡ false
-never true = refl
-never false = refl
 
 -- one that follows nobody acknowledges nothing
 pub due_rests : (states : States) (fv : Plain) (s : DialResult) → states s.dial.consumer.dialed.vb ≡ Some fv → is_follower fv.role ≡ false → after (due_requested s) states ≡ (states, s)
@@ -333,13 +325,8 @@ due_rests states fv s known rests = by (is_streaming s.dial.consumer.handshake)
     same : with_vb_at states v fv ≡ states
     same = λ i q. put_same states v fv known q i
 
-    -- no seqno is due
-    met : after (due_met s 0) states ≡ (states, s)
-    met = ap (λ b. after (if b then Call v call.Stat (λ reply. Done (acknowledged_result 0 s (saved_of_reply reply))) else Done s) states)
-        (ap (λ b. is_streaming s.dial.consumer.handshake && b) (none_below s.dial.consumer.acked) ∙ never (is_streaming s.dial.consumer.handshake))
-
-    by : (b : Bool) → after (if b then Call v call.Due (λ reply. due_met s (due_of_reply reply)) else Done s) states ≡ (states, s)
+    by : (b : Bool) → after (if b then Call v call.Due (λ reply. Done (due_met s (dues_of_reply reply))) else Done s) states ≡ (states, s)
     by false = refl
-    by true = ap (λ o. let y = call_at states v call.Due o in after (due_met s (due_of_reply y.1)) y.0) known
-        ∙ ap (λ b. after (due_met s (due_of_reply (Some (if b then quiet_reply (Num (due (pending_prepares fv) (fork_of fv.position) fv.saved)) else refusal_reply NotMyVbucket)))) (with_vb_at states v fv)) rests
-        ∙ ap (after (due_met s 0)) same ∙ met
+    by true = ap (λ o. let y = call_at states v call.Due o in (y.0, due_met s (dues_of_reply y.1))) known
+        ∙ ap (λ b. (with_vb_at states v fv, due_met s (dues_of_reply (Some (if b then quiet_reply (Dues (due (pending_prepares fv) (fork_of fv.position) fv.saved) fv.saved) else refusal_reply NotMyVbucket))))) rests
+        ∙ ap (λ st. (st, s)) same

@@ -14,7 +14,9 @@ use Rattle.transcript_law.proofs.invariant.Carrying.{StreamsChanged}
 use Rattle.transcript_law.proofs.{links.Frames.{readable}, links.Spoken.{answer_spoken, spoken_push}}
 use Rattle.transcript_law.proofs.links.Talks.{served_link, next_up, more_down}
 use Rattle.transcript_law.proofs.invariant.Carried.{sound_streams}
-use Rattle.dcp_producer.specs.{Producers.{is_client, stream_at as stream_of_vb}, Serving.{gives_of, log_of_reply, next_stream, opening_requested, opens, refusal_requested, with_asked, with_granted}}
+use Rattle.std.proofs.lemmas.Bool.{leb-true}
+use Rattle.vbucket.proofs.Fed.{feeds_opened}
+use Rattle.dcp_producer.specs.{Firsts.{first_of}, Producers.{is_client, stream_at as stream_of_vb}, Serving.{gives_of, log_of_reply, next_stream, opening_requested, opens, refusal_requested, with_asked, with_granted}}
 use Rattle.transcript_law.proofs.links.Firsts.{first_answers, first_count, request_frames, set_after}
 use Rattle.transcript_law.proofs.links.Requests.{all_set, answers_count, request_answered, request_last}
 use Rattle.{dcp_consumer.specs.Dialing.{flagged}, takeover.specs.TakingOver.{new_take_over}, takeover.specs.declared.take_over.TakeOver.{TakeOver}, takeover.specs.declared.take_over.TakeStep.{TakeStep}, takeover.specs.declared.take_over.TakeStep.TheVariants.{Pend}}
@@ -34,7 +36,7 @@ refused_told s o vb ask log high said = with_frame (record s { end = with_asked 
 
 -- the stream of the number id that begins; its consumer has all up to the start that it asked for
 abbrev pub begun_stream : ℕ → ℕ → ℕ → StreamAsk → PlainStream
-begun_stream id o vb ask = record { id = id; vb = vb; opaque = o; until = ask.end; items = []; next = 0; marked = None; reached = ask.start; ended = false; gives = gives_of ask.flags }
+begun_stream id o vb ask = record { id = id; vb = vb; opaque = o; until = ask.end; first = first_of ask; items = []; next = 0; marked = None; reached = ask.start; ended = false; gives = gives_of ask.flags }
 
 -- the producer then
 abbrev pub granted_end : PlainProducer → ℕ → ℕ → StreamAsk → PlainProducer
@@ -136,11 +138,11 @@ module _ (o vb node : ℕ) (ask : StreamAsk) (s : Served) (range : AskInRange as
 
     -- one that opens the stream, which is the only one then
     pub granted_asked : open_refusal pv id ask ≡ None → rule pv.log pv.position.at ask ≡ Continue
-        → (st' : States) × StatesAre st vb (record pv { streams = pv.streams ++ new_stream id ask true ∷ [] }) st'
+        → (st' : States) × StatesAre st vb (record pv { streams = pv.streams ++ new_stream pv id ask true ∷ [] }) st'
         × (after (frame_answered (asked_frame o vb ask) s) st ≡ (st', granted_lines s o vb ask pv.log pv.position.at))
     unfolding stream_answered dcp_frame
     granted_asked because ruled =
-        let pv' : Plain = record pv { streams = pv.streams ++ new_stream id ask true ∷ [] } in
+        let pv' : Plain = record pv { streams = pv.streams ++ new_stream pv id ask true ∷ [] } in
         let states' : States = with_vb_at st vb pv' in (
           states',
           called_once st vb pv',
@@ -221,7 +223,7 @@ module _ (fv : Plain) (ask : StreamAsk) (link : PlainLink) (down : List ℕ) (f 
     number = next_stream link.server
 
     abbrev new : Stream
-    new = new_stream number ask true
+    new = new_stream pv number ask true
 
     -- the producer's end, and its stream
     abbrev begun : PlainStream
@@ -256,6 +258,8 @@ module _ (fv : Plain) (ask : StreamAsk) (link : PlainLink) (down : List ℕ) (f 
         vb_is = refl;
         opaque_is = refl;
         no_end = record { until = subst (λ (a : StreamAsk). top < a.end) (sym t.asks) (omega arith); marked = tt };
+        first_is = refl;
+        marked_is = refl;
         fits = All-nil _;
         next_in = omega arith;
         last = refl;
@@ -309,6 +313,7 @@ module _ (fv : Plain) (ask : StreamAsk) (link : PlainLink) (down : List ℕ) (f 
         };
         feed = new_feed;
         fed = refl;
+        sources = record { snapshots = []; are = refl };
         log_fits = record { short = short; entries = subst (All EntryFits) (sym logs) fits };
         seen = t.seen;
         taking = record {
@@ -331,7 +336,7 @@ module _ (fv : Plain) (ask : StreamAsk) (link : PlainLink) (down : List ℕ) (f 
     -- only the link's own stream was opened
     pub streams_opened : Sound pv → StreamsChanged number pv opened_vb
     streams_opened sound = record {
-      sound = sound_streams pv opened_vb.streams sound;
+      sound = sound_streams pv opened_vb.streams sound (feeds_opened pv.role pv.floor pv.streams new active sound.feeds free (leb-true pv.floor ask.start));
       alone = refl;
       others = λ x ne.
           find-append (λ (s : Stream). s.id == x) pv.streams (new ∷ [])

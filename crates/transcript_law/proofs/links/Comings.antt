@@ -1,8 +1,8 @@
 -- what is to come for a consumer, and which of it was put
 use Rattle.std.specs.Prelude.{◌≡◌, ◌⊎◌, ◌+◌, ◌≤◌, ◌∷◌, ◌++◌}
-use Rattle.transcript_law.proofs.Words.{ℕ, Bool, true, false, List, [], length, map, drop, refl, ap, sym, ◌∙◌, inl, inr, arith, append-nil, append_assoc, Option, Some, slice_get}
+use Rattle.transcript_law.proofs.Words.{ℕ, Bool, true, false, List, [], length, map, drop, refl, ap, sym, ◌∙◌, subst, inl, inr, arith, append-nil, append_assoc, Option, Some, slice_get}
 use Rattle.transcript_law.proofs.{Words.{length-append, map-append, Frame, Change, flight_end, past_item, PlainStream, ItemLine, item_of_change}, invariant.Agreement.{change_frame}}
-use Rattle.transcript_law.proofs.{invariant.Agreement.{items_frames, flight_frames, coming_items, flight_items, flight_marks, Handing, LastAgrees, ComingIs, is_sending, tail_frames}, links.Sent.{drop_found, drop_whole}}
+use Rattle.transcript_law.proofs.{invariant.Agreement.{items_frames, flight_frames, flight_of, coming_items, flight_items, flight_marks, Handing, LastAgrees, ComingIs, is_sending, tail_frames}, links.Sent.{drop_found, drop_whole}}
 use Rattle.std.proofs.lemmas.List.{length-drop, length-map}
 
 -- the last snapshot on its way
@@ -82,8 +82,8 @@ module _ (o v start : ℕ) (given : Handing) (over : Bool) (stream : PlainStream
       by false e other q = inl (stated_behind (ap is_sending q))
 
   -- where no item that was put is to come, more are left than there are
-  none_put : (flight : List (ℕ × List Change)) → LastAgrees stream.items flight → length left ≡ 1 + (length later + length (flight_items flight)) → (unput ≡ []) ⊎ (tail ≡ [])
-      → items_frames o v later ++ flight_frames o v tail start flight ≡ more ++ unput → ⊥
+  none_put : (snapshots : List (Bool × (ℕ × List Change))) → LastAgrees stream.items (flight_of snapshots) → length left ≡ 1 + (length later + length (flight_items (flight_of snapshots))) → (unput ≡ []) ⊎ (tail ≡ [])
+      → items_frames o v later ++ flight_frames o v tail start snapshots ≡ more ++ unput → ⊥
   none_put [] l e (inl put) frames =
       let none : length unput ≡ 0 = ap (λ (fs : List Frame). length fs) put in let same = unput_len in omega (arith, none, same, e)
   none_put [] l e (inr none) frames =
@@ -91,19 +91,20 @@ module _ (o v start : ℕ) (given : Handing) (over : Bool) (stream : PlainStream
       let lens : length (items_frames o v later ++ []) ≡ length (more ++ unput) = ap (λ (fs : List Frame). length (items_frames o v later ++ fs)) (sym none) ∙ ap (λ (fs : List Frame). length fs) frames in
       let before = length-append (items_frames o v later) [] in let after = length-append more unput in let same = unput_len in
       omega (arith, most, lens, before, after, same, e)
-  none_put (x ∷ xs) l e q frames =
+  none_put (s ∷ more) l e q frames =
       let most : length left ≤ length stream.items = (let e = length-drop stream.next stream.items in omega (arith, e)) in
-      let few : length stream.items ≤ length (flight_items (x ∷ xs)) = last_most stream.items x xs l in omega (arith, most, few, e)
+      let few : length stream.items ≤ length (flight_items (flight_of (s ∷ more))) = last_most stream.items s.1 (flight_of more) l in omega (arith, most, few, e)
 
   -- the first item that was put is this one's
-  pub next_item_line : (flight : List (ℕ × List Change)) (told : List ItemLine) → ComingIs told stream flight (Some (c ∷ later)) → items_frames o v later ++ flight_frames o v tail start flight ≡ more ++ unput
-      → (rest : List ItemLine) × (told ≡ item_of_change c ∷ rest) × (map item_of_change (later ++ flight_items flight) ≡ rest ++ map item_of_change left)
-  next_item_line flight [] s frames =
+  pub next_item_line : (snapshots : List (Bool × (ℕ × List Change))) (flight : List (ℕ × List Change)) → flight_of snapshots ≡ flight → (told : List ItemLine) → ComingIs told stream flight (Some (c ∷ later))
+      → items_frames o v later ++ flight_frames o v tail start snapshots ≡ more ++ unput → (rest : List ItemLine) × (told ≡ item_of_change c ∷ rest) × (map item_of_change (later ++ flight_items flight) ≡ rest ++ map item_of_change left)
+  next_item_line snapshots flight are [] s frames =
       let lens : length (map item_of_change (c ∷ (later ++ flight_items flight))) ≡ length (map item_of_change left) = ap (λ (xs : List ItemLine). length xs) s.all in
       let before = length-map (c ∷ (later ++ flight_items flight)) item_of_change in let after = length-map left item_of_change in
       let both = length-append later (flight_items flight) in
-      absurd (none_put flight s.last (omega (arith, lens, before, after, both)) all_or_none frames)
-  next_item_line flight (t ∷ rest) s frames =
+      let more_left : length left ≡ 1 + (length later + length (flight_items flight)) = omega (arith, lens, before, after, both) in
+      absurd (none_put snapshots (subst (LastAgrees stream.items) (sym are) s.last) (subst (λ xs. length left ≡ 1 + (length later + length (flight_items xs))) (sym are) more_left) all_or_none frames)
+  next_item_line snapshots flight are (t ∷ rest) s frames =
       let first : item_of_change c ∷ map item_of_change (later ++ flight_items flight) ≡ t ∷ (rest ++ map item_of_change left) = s.all in
       let same : item_of_change c ≡ t = cc in (rest, ap (λ x. x ∷ rest) (sym same), ap (drop 1) first)
 

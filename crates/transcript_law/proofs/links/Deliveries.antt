@@ -21,14 +21,14 @@ use Rattle.dcp_consumer.specs.declared.handshake.ConsumerStep.{ConsumerStep}
 use Rattle.dcp_consumer.specs.declared.handshake.Handshake.{Handshake as Waiting}
 use Rattle.dcp_consumer.specs.declared.passive_stream.Passive.{Passive}
 use Rattle.dcp_consumer.specs.PassiveStreams.{passive_read}
-use Rattle.node_core.specs.Dials.{acknowledged_result, bytes_counted, due_met, due_of_reply, due_requested, message_result, passive_made, saved_of_reply, step_made, taken_as}
+use Rattle.node_core.proofs.Dues.{due_always}
+use Rattle.node_core.specs.Dials.{bytes_counted, due_requested, message_result, passive_made, step_made, taken_as}
 use Rattle.vb_calls.proofs.JobConduct.{after_job_always, always_lift}
 use Rattle.vb_calls.specs.{Jobs.{AlwaysJob, Call as AsksCall, Request}, Programs.{Always, AnyCall, AnyReply}, Shelves.{Shelves}}
 use Rattle.dcp_consumer.specs.declared.handshake.ConsumerStep.TheVariants as step
 use Rattle.dcp_consumer.specs.declared.handshake.Handshake.TheVariants as waiting
 use Rattle.dcp_consumer.specs.declared.passive_stream.Passive.TheVariants as passive
 use Rattle.vb_calls.specs.declared.calls.VbAnswer.TheVariants as answer
-use Rattle.vb_calls.specs.declared.calls.VbCall.TheVariants as call
 
 -- ---- while a consumer waits for answers, it was sent nothing that counts
 
@@ -59,19 +59,7 @@ all_answers P all (Request v ask next) = (tt, λ got. all_answers P all (next go
 
 -- a stream that was granted stays so, or is over
 due_past : (s : DialResult) → Past s → Always AnyCall Past (due_requested s)
-unfolding due_requested
-due_past s past = by _
-  where
-    met_by : (seq : ℕ) (b : Bool) → Always AnyCall Past (if b then Call s.dial.consumer.dialed.vb call.Stat (λ reply. Done (acknowledged_result seq s (saved_of_reply reply))) else Done s)
-    met_by seq true = (tt, λ reply any. past)
-    met_by seq false = past
-
-    met : (seq : ℕ) → Always AnyCall Past (due_met s seq)
-    met seq = met_by seq _
-
-    by : (b : Bool) → Always AnyCall Past (if b then Call s.dial.consumer.dialed.vb call.Due (λ reply. due_met s (due_of_reply reply)) else Done s)
-    by true = (tt, λ reply any. met (due_of_reply reply))
-    by false = past
+due_past s past = due_always Past s (λ seq saved. past) past AnyCall tt
 
 passive_past : (p : Passive) (s : DialResult) → Past s → Always AnyCall Past (passive_made p s)
 unfolding call_made

@@ -125,6 +125,7 @@ module _ {fv : Wants} {kn : Member} {pv : Option Plain} {leader : Member} {g : O
         };
         feed = t.feed;
         fed = t.fed;
+        sources = t.sources;
         log_fits = t.log_fits;
         seen = t.seen;
         taking = record {
@@ -141,6 +142,8 @@ module _ {fv : Wants} {kn : Member} {pv : Option Plain} {leader : Member} {g : O
             vb_is = t.streams.put.vb_is;
             opaque_is = t.streams.put.opaque_is;
             no_end = record { until = t.streams.put.no_end.until; marked = t.streams.put.no_end.marked };
+            first_is = t.streams.put.first_is;
+            marked_is = t.streams.put.marked_is;
             fits = t.streams.put.fits;
             next_in = t.streams.put.next_in;
             last = begun_heard t.granted_is.last t.stream t.streams.put.last;
@@ -155,7 +158,7 @@ module _ {fv : Wants} {kn : Member} {pv : Option Plain} {leader : Member} {g : O
           way = t.streams.way;
         };
         all = subst (λ h. drop t.seen (first_answers asker.dialed ++ answer_frame o t.feed.log ask_answer.Go ∷ [])
-            ++ stream_frames o v (tail_frames o v h t.granted_is.over) (is_granted asker.dialed t.seen && not fv.first) kn.position kn.coming t.feed.flight ≡ put ++ t.unput) pended t.all;
+            ++ stream_frames o v (tail_frames o v h t.granted_is.over) (is_granted asker.dialed t.seen && not fv.first) kn.position kn.coming t.snapshots ≡ put ++ t.unput) pended t.all;
       }
     where
       opens_due : (t : Streaming fv kn pv leader g served asker (f ∷ rest) put) → t.handing ≡ Handing.Pended → Open t.stream.id t.granted_is pv leader t.feed t.handing → Open t.stream.id t.granted_is pv leader t.feed Handing.Due

@@ -8,7 +8,7 @@ use Rattle.branch_model.{proofs.Lasts.{kept_in_filter, rises_filter}, specs.Requ
 use Rattle.std.proofs.lemmas.{Bool.{and_from, le-leb, lt-ltb}, List.{take_all}}
 use Rattle.std.specs.{List.{find}, Prelude.{nat_le, nat_lt}, Str.{bytes_eq}}
 use Rattle.vb_calls.specs.Spans.{is_whole, key_lasts, live_in, live_of, starts_below, stretch}
-use Rattle.vb_calls.specs.Streams.{has_any, is_end_for, is_in_memory, is_plain_next, is_seen, items_to, may_end, sent_as, span_items}
+use Rattle.vb_calls.specs.Streams.{has_any, is_end_for, is_plain_next, is_seen, items_to, may_end, sent_as, span_items}
 use Rattle.vb_calls.specs.declared.span.Origin.{Origin}
 use Rattle.vb_types.specs.Histories.{is_visible}
 use Rattle.vbucket.specs.Laws.{AllSpans, Follow, IsSpan}
@@ -128,7 +128,7 @@ none_last p low high (w ∷ x ∷ ws) f l e =
 
 -- ---- where a stream is given nothing
 
-module _ (p : Plain) (o : Stream) (sound : Sound p) (sync : o.sync ≡ true) (near : is_in_memory p.floor o ≡ true) (none : end_span o (all_spans p.spans) p.held ≡ None) where
+module _ (p : Plain) (o : Stream) (sound : Sound p) (sync : o.sync ≡ true) (floor_low : p.floor ≤ o.place) (none : end_span o (all_spans p.spans) p.held ≡ None) where
   abbrev at : ℕ
   at = p.position.at
 
@@ -137,9 +137,6 @@ module _ (p : Plain) (o : Stream) (sound : Sound p) (sync : o.sync ≡ true) (ne
 
   abbrev ws : List Span
   ws = all_spans p.spans
-
-  floor_low : p.floor ≤ o.place
-  floor_low = grind (arith, nat_tests, near)
 
   -- where there is more it may end
   no_end : o.place < at → need_of o ≤ at → ⊥

@@ -1,17 +1,17 @@
 -- a producer takes its stream's next snapshot of its vBucket, and puts its marker
 use Rattle.std.specs.Prelude.{◌≡◌, ◌≤◌, if◌then◌else◌, ◌<◌, ◌∷◌, ◌++◌, ◌==◌, ◌&&◌}
-use Rattle.transcript_law.proofs.Words.{length-append, ℕ, true, false, refl, ap, sym, ◌∙◌, subst, arith, Some, Snapshot, Covers, Stream, Span, Plain, plain_step, all_spans, is_whole}
+use Rattle.transcript_law.proofs.Words.{length-append, map-append, ℕ, true, false, refl, ap, sym, ◌∙◌, subst, arith, Some, Snapshot, Covers, Stream, Span, Plain, plain_step, all_spans, is_whole}
 use Rattle.transcript_law.proofs.Words.{stream_at, need_of, start_of, end_span, take_to, take_from, Sound, TakesSnapshots, Bool, cond, List, [], length, map, drop, ⊎_elim, append_assoc, append-nil}
 use Rattle.transcript_law.proofs.Words.{Option, None, is_some, not, All, eqb-true, ne_eqb, Frame, dcp_frame, Change, Position, StreamAsk, last_seq, effective_ss, effective_se, fork_of, Branch}
 use Rattle.transcript_law.proofs.Words.{hist, Feed, Member, flight_from, flight_end, member_reach, Flight, PlainStream, Begun, Granted, stream_branch, with_begun, item_of_change, IsWholeIf, IsMarker, PlainProducer}
 use Rattle.transcript_law.proofs.{Words.{PlainConsumer}, links.Sent.{fits_of, all_by_each, drop_whole, flight_frames_push, flight_end_push, sending_tail}, invariant.Agreement.{ChangeFits, BegunAgrees, GivenIn, Handing, Open, StreamAgrees, has_pended, is_sending, kept_stream, Streaming, tail_frames, top}}
-use Rattle.transcript_law.proofs.{invariant.Agreement.{coming_items, flight_marks, marker_start, items_frames, flight_frames, stream_frames, answer_frame, is_granted, Wants}, links.Firsts.{first_answers}, links.Comings.{marks_push, snapshot_comes}}
+use Rattle.transcript_law.proofs.{invariant.Agreement.{coming_items, flight_marks, marker_start, items_frames, flight_frames, flight_of, stream_frames, answer_frame, is_granted, Wants}, links.Firsts.{first_answers}, links.Comings.{marks_push, snapshot_comes}}
 use Rattle.transcript_law.proofs.invariant.Tables.{never}
 use Rattle.branch_model.proofs.Lists.{in_right, from_upto, last_in, rises_in, upto-append}
 use Rattle.vb_types.specs.Histories.{Rises, Slot, last_by, last_of, touches, upto}
 use Rattle.std.specs.Option.{option_or}
-use Rattle.std.proofs.lemmas.Bool.{leb-true}
-use Rattle.vb_calls.specs.Streams.{is_in_memory}
+use Rattle.dcp_producer.specs.Frames.{marker_flags}
+use Rattle.transcript_law.{proofs.links.Sources.{disk_told}, specs.StreamLaws.{IsUnreplaced}, specs.StreamsTold.{is_from_disk}}
 use Rattle.{branch_model.proofs.Ruling.{reach_cases}, branch_model.specs.Snapshots.{plain_view, AllOf}, cluster_model.specs.Clusters.{Ground, FirstReaches}}
 use Rattle.{mcbp_dcp.specs.declared.message.DcpMsg.TheVariants.{SnapshotMarker}, std.proofs.lemmas.Bool.{false_from_ne_true, true_from_ne_false}, std.proofs.lemmas.List.{take_all}}
 use Rattle.{transcript_law.specs.Lawfulness.{next_marker_start, reach_after}, vb_calls.specs.Streams.{items_to, snapshot_of, moved_on}, vb_calls.specs.declared.calls.VbCall.TheVariants.{Take}}
@@ -19,7 +19,7 @@ use Rattle.{vb_types.specs.declared.stream.AskAnswer.TheVariants.{Go}, vbucket.s
 
 -- a stream from which a snapshot up to `end` was taken
 abbrev pub moved_stream : Stream → ℕ → Stream
-moved_stream s end = record { id = s.id; ask = s.ask; sync = s.sync; place = end; taken = true }
+moved_stream s end = record { id = s.id; ask = s.ask; sync = s.sync; place = end; cursor = s.cursor; taken = true }
 
 -- it is found at its number, and the others as before
 pub moved_here : (id end : ℕ) (ss : List Stream) (s : Stream) → stream_at id ss ≡ Some s → stream_at id (map (moved_on id end) ss) ≡ Some (moved_stream s end)
@@ -160,13 +160,13 @@ pended_sends Handing.Due e = refl
 pended_sends other e = cc
 
 -- what the lines and the producer tell of the stream, after its marker
-marked_stream_begun : {o vb : ℕ} {g : Granted} {stream : PlainStream} {pv : Option Plain} {leader : Member} {feed : Feed} {kn : Member} {in_one : Bool} {h : Handing} (tree : List Branch) (items : List Change) (start end : ℕ) (x : Open stream.id g pv leader feed h)
-    → StreamAgrees o vb g stream pv leader feed kn in_one h → is_sending h ≡ true → end ≤ top → flight_end (marker_start in_one kn.position) feed.flight ≡ start → length stream.items ≤ stream.next → All ChangeFits items → Covers items (hist tree (stream_branch g)) g.place end
-    → StreamAgrees o vb (with_begun tree start end g) (taken_stream stream items end) (Some (moved_vb x.producer stream.id end)) leader (record { u = feed.u; log = feed.log; flight = feed.flight ++ (end, items) ∷ []; given = feed.given }) (sent_member kn feed items end) in_one h
-marked_stream_begun {g = g} {stream} {feed = feed} {kn} {in_one} {h} tree items start end x s sending low starts whole fits covers =
+marked_stream_begun : {o vb : ℕ} {g : Granted} {stream : PlainStream} {pv : Option Plain} {leader : Member} {feed : Feed} {kn : Member} {in_one : Bool} {h : Handing} (tree : List Branch) (items : List Change) (start end flags : ℕ) (x : Open stream.id g pv leader feed h)
+    → StreamAgrees o vb g stream pv leader feed kn in_one h → is_sending h ≡ true → end ≤ top → flight_end (marker_start in_one kn.position) feed.flight ≡ start → length stream.items ≤ stream.next → All ChangeFits items → Covers items (hist tree (stream_branch g)) g.place end → (is_from_disk flags ≡ true → All (IsUnreplaced (hist tree (stream_branch g)) end) items)
+    → StreamAgrees o vb (with_begun tree start end flags g) (taken_stream stream items end) (Some (moved_vb x.producer stream.id end)) leader (record { u = feed.u; log = feed.log; flight = feed.flight ++ (end, items) ∷ []; given = feed.given }) (sent_member kn feed items end) in_one h
+marked_stream_begun {g = g} {stream} {feed = feed} {kn} {in_one} {h} tree items start end flags x s sending low starts whole fits covers lasts =
     let (y, found, ask, sync, place, taken) = x.opened in
     record {
-      put = record { vb_is = s.vb_is; opaque_is = s.opaque_is; no_end = record { until = s.no_end.until; marked = low }; fits = fits; next_in = omega arith; last = (covers, refl); log_lines = s.log_lines; front_is = s.front_is };
+      put = record { vb_is = s.vb_is; opaque_is = s.opaque_is; no_end = record { until = s.no_end.until; marked = low }; first_is = s.first_is; marked_is = refl; fits = fits; next_in = omega arith; last = (covers, refl, lasts); log_lines = s.log_lines; front_is = s.front_is };
       opens = λ q. record { producer = moved_vb x.producer stream.id end; producer_is = refl; active = x.active; leads = x.leads; opened = (moved_stream y end, moved_here stream.id end x.producer.streams y found, ask, sync, refl, refl); reached = λ q. never q };
       given_in = given_sending h feed.given g.place end sending s.given_in;
       all_taken = λ q. never (sym sending ∙ pended_sends h q);
@@ -185,14 +185,14 @@ marked_stream_begun {g = g} {stream} {feed = feed} {kn} {in_one} {h} tree items 
     }
 
 -- the frames of a stream with one more snapshot
-frames_more : (o vb : ℕ) (in_one : Bool) (p : Position) (coming : Option (List Change)) (flight : List (ℕ × List Change)) (items : List Change) (start end : ℕ) (front put : List Frame) (f : Frame)
-    → flight_end (marker_start in_one p) flight ≡ start → f ≡ dcp_frame (SnapshotMarker start end 1) o vb → front ++ stream_frames o vb [] in_one p coming flight ≡ put
-    → front ++ stream_frames o vb [] in_one p coming (flight ++ (end, items) ∷ []) ≡ (put ++ f ∷ []) ++ items_frames o vb items
-frames_more o vb in_one p coming flight items start end front put f starts is old =
+frames_more : (o vb : ℕ) (in_one : Bool) (p : Position) (coming : Option (List Change)) (snapshots : List (Bool × (ℕ × List Change))) (items : List Change) (start end : ℕ) (disk : Bool) (front put : List Frame) (f : Frame)
+    → flight_end (marker_start in_one p) (flight_of snapshots) ≡ start → f ≡ dcp_frame (SnapshotMarker start end (marker_flags disk)) o vb → front ++ stream_frames o vb [] in_one p coming snapshots ≡ put
+    → front ++ stream_frames o vb [] in_one p coming (snapshots ++ (disk, (end, items)) ∷ []) ≡ (put ++ f ∷ []) ++ items_frames o vb items
+frames_more o vb in_one p coming snapshots items start end disk front put f starts is old =
     let first : ℕ = marker_start in_one p in let here : List Frame = items_frames o vb (coming_items coming) in
-    let there : List Frame = flight_frames o vb [] first flight in let last : List Frame = items_frames o vb items in
-    let marker : dcp_frame (SnapshotMarker (flight_end first flight) end 1) o vb ≡ f = ap (λ s. dcp_frame (SnapshotMarker s end 1) o vb) starts ∙ sym is in
-    ap (λ fs. front ++ (here ++ fs)) (flight_frames_push o vb first end items flight ∙ ap (λ m. there ++ (m ∷ last)) marker)
+    let there : List Frame = flight_frames o vb [] first snapshots in let last : List Frame = items_frames o vb items in
+    let marker : dcp_frame (SnapshotMarker (flight_end first (flight_of snapshots)) end (marker_flags disk)) o vb ≡ f = ap (λ s. dcp_frame (SnapshotMarker s end (marker_flags disk)) o vb) starts ∙ sym is in
+    ap (λ fs. front ++ (here ++ fs)) (flight_frames_push o vb first end disk items snapshots ∙ ap (λ m. there ++ (m ∷ last)) marker)
     ∙ ap (λ fs. front ++ fs) (sym (append_assoc here there (f ∷ last)))
     ∙ sym (append_assoc front (here ++ there) (f ∷ last))
     ∙ ap (λ fs. fs ++ (f ∷ last)) old
@@ -200,21 +200,21 @@ frames_more o vb in_one p coming flight items start end front put f starts is ol
 
 -- one more snapshot is on its way, of which the marker was put
 pub marker_streaming : {fv : Wants} {kn : Member} {pv pv' : Option Plain} {leader : Member} {g g' : Option Granted} {served : PlainProducer} {asker : PlainConsumer} {up put : List Frame} (t : Streaming fv kn pv leader g served asker up put)
-    (tree : List Branch) (items : List Change) (start end : ℕ) (f : Frame) (x : Open t.stream.id t.granted_is pv leader t.feed t.handing) → is_sending t.handing ≡ true → t.granted_is.over ≡ false → end ≤ top
-    → length t.stream.items ≤ t.stream.next → All ChangeFits items → Covers items (hist tree (stream_branch t.granted_is)) t.granted_is.place end
+    (tree : List Branch) (items : List Change) (start end : ℕ) (disk : Bool) (f : Frame) (x : Open t.stream.id t.granted_is pv leader t.feed t.handing) → is_sending t.handing ≡ true → t.granted_is.over ≡ false → end ≤ top
+    → length t.stream.items ≤ t.stream.next → All ChangeFits items → Covers items (hist tree (stream_branch t.granted_is)) t.granted_is.place end → (disk ≡ true → All (IsUnreplaced (hist tree (stream_branch t.granted_is)) end) items)
     → flight_end (marker_start (is_granted asker.dialed t.seen && not fv.first) kn.position) t.feed.flight ≡ start
-    → f ≡ dcp_frame (SnapshotMarker start end 1) asker.asked asker.dialed.vb → pv' ≡ Some (moved_vb x.producer t.stream.id end) → g' ≡ Some (with_begun tree start end t.granted_is)
+    → f ≡ dcp_frame (SnapshotMarker start end (marker_flags disk)) asker.asked asker.dialed.vb → pv' ≡ Some (moved_vb x.producer t.stream.id end) → g' ≡ Some (with_begun tree start end (marker_flags disk) t.granted_is)
     → Streaming fv (sent_member kn t.feed items end) pv' leader g' (record served { streams = taken_stream t.stream items end ∷ [] }) asker up (put ++ f ∷ [])
-marker_streaming {fv} {kn} {pv} {leader = leader} {asker = asker} {put = put} t tree items start end f x sending opens low whole fits covers starts frame moved given =
+marker_streaming {fv} {kn} {pv} {leader = leader} {asker = asker} {put = put} t tree items start end disk f x sending opens low whole fits covers lasts starts frame moved given =
     let o : ℕ = asker.asked in let vb : ℕ = asker.dialed.vb in let in_one : Bool = is_granted asker.dialed t.seen && not fv.first in
     let feed : Feed = record { u = t.feed.u; log = t.feed.log; flight = t.feed.flight ++ (end, items) ∷ []; given = t.feed.given } in
-    let front : List Frame = drop t.seen (first_answers asker.dialed ++ answer_frame o t.feed.log Go ∷ []) in
+    let front : List Frame = drop t.seen (first_answers asker.dialed ++ answer_frame o t.feed.log Go ∷ []) in let one : Bool × (ℕ × List Change) = (disk, (end, items)) in
     let unput_none : t.unput ≡ [] = t.unput_is ∙ ap (items_frames o vb) (drop_whole t.stream.items t.stream.next whole) in
     let none_behind : tail_frames o vb t.handing t.granted_is.over ≡ [] = ap (tail_frames o vb t.handing) opens ∙ sending_tail o vb t.handing sending in
-    let old : front ++ stream_frames o vb [] in_one kn.position kn.coming t.feed.flight ≡ put =
-    sym (ap (λ tail. front ++ stream_frames o vb tail in_one kn.position kn.coming t.feed.flight) none_behind) ∙ t.all ∙ ap (λ u. put ++ u) unput_none ∙ append-nil put in
+    let old : front ++ stream_frames o vb [] in_one kn.position kn.coming t.snapshots ≡ put =
+    sym (ap (λ tail. front ++ stream_frames o vb tail in_one kn.position kn.coming t.snapshots) none_behind) ∙ t.all ∙ ap (λ u. put ++ u) unput_none ∙ append-nil put in
     record {
-      granted_is = with_begun tree start end t.granted_is;
+      granted_is = with_begun tree start end (marker_flags disk) t.granted_is;
       told = given;
       serving = record {
         stream = taken_stream t.stream items end;
@@ -233,24 +233,25 @@ marker_streaming {fv} {kn} {pv} {leader = leader} {asker = asker} {put = put} t 
       };
       feed = feed;
       fed = refl;
+      sources = record { snapshots = t.snapshots ++ one ∷ []; are = map-append (λ s. s.1) t.snapshots (one ∷ []) ∙ ap (λ xs. xs ++ (end, items) ∷ []) t.are };
       log_fits = t.log_fits;
       seen = t.seen;
       taking = t.taking;
-      streams = subst (λ y. StreamAgrees o vb (with_begun tree start end t.granted_is) (taken_stream t.stream items end) y leader feed (sent_member kn t.feed items end) in_one t.handing) (sym moved)
-          (marked_stream_begun tree items start end x t.streams sending low starts whole fits covers);
-      all = ap (λ tail. front ++ stream_frames o vb tail in_one kn.position kn.coming (t.feed.flight ++ (end, items) ∷ [])) none_behind
-          ∙ frames_more o vb in_one kn.position kn.coming t.feed.flight items start end front put f starts frame old;
+      streams = subst (λ y. StreamAgrees o vb (with_begun tree start end (marker_flags disk) t.granted_is) (taken_stream t.stream items end) y leader feed (sent_member kn t.feed items end) in_one t.handing) (sym moved)
+          (marked_stream_begun tree items start end (marker_flags disk) x t.streams sending low starts whole fits covers (λ told. lasts (sym (disk_told disk) ∙ told)));
+      all = ap (λ tail. front ++ stream_frames o vb tail in_one kn.position kn.coming (t.snapshots ++ one ∷ [])) none_behind
+          ∙ frames_more o vb in_one kn.position kn.coming t.snapshots items start end disk front put f (ap (flight_end (marker_start in_one kn.position)) t.are ∙ starts) frame old;
     }
 
 -- so far as it is handed over
 pub marker_handing : {fv : Wants} {kn : Member} {pv pv' : Option Plain} {leader : Member} {g g' : Option Granted} {served : PlainProducer} {asker : PlainConsumer} {up put : List Frame} (t : Streaming fv kn pv leader g served asker up put)
-    (tree : List Branch) (items : List Change) (start end : ℕ) (f : Frame) (x : Open t.stream.id t.granted_is pv leader t.feed t.handing) (sending : is_sending t.handing ≡ true) (opens : t.granted_is.over ≡ false) (low : end ≤ top)
-    (whole : length t.stream.items ≤ t.stream.next) (fits : All ChangeFits items) (covers : Covers items (hist tree (stream_branch t.granted_is)) t.granted_is.place end)
+    (tree : List Branch) (items : List Change) (start end : ℕ) (disk : Bool) (f : Frame) (x : Open t.stream.id t.granted_is pv leader t.feed t.handing) (sending : is_sending t.handing ≡ true) (opens : t.granted_is.over ≡ false) (low : end ≤ top)
+    (whole : length t.stream.items ≤ t.stream.next) (fits : All ChangeFits items) (covers : Covers items (hist tree (stream_branch t.granted_is)) t.granted_is.place end) (lasts : disk ≡ true → All (IsUnreplaced (hist tree (stream_branch t.granted_is)) end) items)
     (starts : flight_end (marker_start (is_granted asker.dialed t.seen && not fv.first) kn.position) t.feed.flight ≡ start)
-    (frame : f ≡ dcp_frame (SnapshotMarker start end 1) asker.asked asker.dialed.vb) (moved : pv' ≡ Some (moved_vb x.producer t.stream.id end)) (given : g' ≡ Some (with_begun tree start end t.granted_is))
-    → (marker_streaming t tree items start end f x sending opens low whole fits covers starts frame moved given).handing ≡ t.handing
+    (frame : f ≡ dcp_frame (SnapshotMarker start end (marker_flags disk)) asker.asked asker.dialed.vb) (moved : pv' ≡ Some (moved_vb x.producer t.stream.id end)) (given : g' ≡ Some (with_begun tree start end (marker_flags disk) t.granted_is))
+    → (marker_streaming t tree items start end disk f x sending opens low whole fits covers lasts starts frame moved given).handing ≡ t.handing
 unfolding marker_streaming
-marker_handing t tree items start end f x sending opens low whole fits covers starts frame moved given = refl
+marker_handing t tree items start end disk f x sending opens low whole fits covers lasts starts frame moved given = refl
 
 -- the last of more changes
 
@@ -303,7 +304,7 @@ pub record SnapshotTaken (vb : Plain) (id : ℕ) (s : Stream) (snapshot : Snapsh
 abbrev pub span_snapshot : Plain → Stream → Span → Snapshot
 span_snapshot vb s w = snapshot_of s (items_to s (all_spans vb.spans) vb.held w.last)
 
-pub taken_is : TakesSnapshots → (vb : Plain) (id : ℕ) (s : Stream) (w : Span) → Sound vb → stream_at id vb.streams ≡ Some s → s.sync ≡ true → is_in_memory vb.floor s ≡ true → end_span s (all_spans vb.spans) vb.held ≡ Some w
+pub taken_is : TakesSnapshots → (vb : Plain) (id : ℕ) (s : Stream) (w : Span) → Sound vb → stream_at id vb.streams ≡ Some s → s.sync ≡ true → s.cursor ≡ true → end_span s (all_spans vb.spans) vb.held ≡ Some w
     → SnapshotTaken vb id s (span_snapshot vb s w) (take_to (Some w) s vb).0
 taken_is takes vb id s w sound found sync near ends =
     let snapshot : Snapshot = span_snapshot vb s w in
@@ -313,7 +314,7 @@ taken_is takes vb id s w sound found sync near ends =
     let is : IsSnapshot vb s end snapshot = subst (λ x. IsSnapshot vb x end snapshot) same is' in
     let full : snapshot.end ≡ end = is.full sync in
     record {
-      fed = leb-true vb.floor s.place near;
+      fed = sound.feeds.cursors id s found near;
       disk = refl;
       covers = subst (λ h. Covers snapshot.items h s.place snapshot.end) (ap (λ b. if b then vb.held else plain_view vb.held) sync) is.covers;
       need = let n : need_of s ≤ end = is.reaches in omega arith;

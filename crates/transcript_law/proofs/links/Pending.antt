@@ -7,6 +7,7 @@ use Rattle.transcript_law.proofs.invariant.{Carried.{no_writer, one_but, one_her
 use Rattle.transcript_law.proofs.disks.Disks.{sealed_disk}
 use Rattle.transcript_law.proofs.lines.{Lines.{after_more, lawful_more, quiet_more}, Takeovers.{lines_takeovers}}
 use Rattle.transcript_law.proofs.links.{Downing.{Asker, Line, Met, Phase, Reached, all_answers, busy_at, end_of, found_now, link_now, moved_agrees, next_downs, now, put_vb, same_powers, same_shelves, so_far, vb_others, vb_put}, Followed.{came_of, no_writes}, Frames.{readable, spelled_more}, Onward.{Kept, onward_all, onward_more}, Streaming.{Course, StateNext}, Taken.{go_frame, state_taken, stream_pended}, Takes.{TakesOn, took_of, untaken}, Upgoing.{upward_answered}}
+use Rattle.transcript_law.proofs.links.Sent.{none_sourced}
 use Rattle.transcript_law.proofs.links.Streaming as at_course
 use Rattle.transcript_law.proofs.verbs.NodeLines.{role_here, role_row, role_there, writers_rest}
 use Rattle.transcript_law.specs.{Heirs.{IsTaking}, Undone.{is_taking}}
@@ -215,6 +216,7 @@ module _ (line : Line) (course : Course line) where
       };
       feed = feed;
       fed = streaming.fed;
+      sources = streaming.sources;
       log_fits = streaming.log_fits;
       seen = streaming.seen;
       taking = record {
@@ -229,7 +231,7 @@ module _ (line : Line) (course : Course line) where
       streams = stream_pended empty (ap coming_items none)
           (subst (StreamAgrees o v streaming.granted_is streaming.stream (vb_of (now line states at) p v) (c.nodes (seat p v)) feed kn (at_course.in_one line course)) is streaming.streams);
       all = (λ i. (ap (λ y. drop y (all_answers link.consumer.dialed (go_frame o feed))) all ∙ at_course.none_behind line course) i
-          ++ stream_frames o v (end_frames o v STATE_CHANGED over) (at_course.in_one line course) kn.position (none i) (empty i)) ∙ behind;
+          ++ stream_frames o v (end_frames o v STATE_CHANGED over) (at_course.in_one line course) kn.position (none i) (none_sourced streaming.snapshots (streaming.are ∙ empty) i)) ∙ behind;
     }
 
     -- the link agrees, where what lines tell of its stream, and of its vBucket's member, is the same

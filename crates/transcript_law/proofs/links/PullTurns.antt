@@ -4,7 +4,7 @@ use Rattle.transcript_law.proofs.Words.{Bool, Chronicle, Cluster, Granted, Halt,
 use Rattle.transcript_law.proofs.Words.{[], after, after_lines, ap, false, link_number, producer_node, refl, row_at, subst, sym, true, ℕ, ◌∙◌, ⊎_elim}
 use Rattle.transcript_law.proofs.invariant.Agreement.{AgreesIn, EndsStand, LinkAgrees, consumer_seat, idle, kept_stream, producer_seat, spoken, vb_of, wants_of}
 use Rattle.transcript_law.proofs.{invariant.LinkRows.{found_is_link}, lines.Pulling.{lets_through}}
-use Rattle.transcript_law.proofs.links.{HeirTurns.{heir_turn}, Idling.{all_put_by}, PumpWorlds.{SoFar, TurnsSoFar, full_stopped, pumped, served_link}, PutFrames.{dial_told, found_here, numbered, own_dial}, Turns.{stream_turn}}
+use Rattle.transcript_law.proofs.links.{HeirTurns.{heir_turn}, Idling.{all_put_by}, PumpWorlds.{SoFar, TurnsSoFar, full_stopped, pumped, served_link}, PutFrames.{dial_told, found_here, numbered, own_dial}, StreamTurns.{stream_turn}}
 use Rattle.dcp_producer.{proofs.OneStream.{no_frame_of, one_came, one_frame_of, shut_frame_of}, specs.Frames.{Next, next_frame}, specs.Pulling.{Pulling, none_quiet, one_frame, pull_of}}
 use Rattle.dcp_producer.specs.declared.next_frame.NextFrame.TheVariants as frame
 use Rattle.dcp_producer.specs.declared.next_frame.Waits.{Waits}

@@ -8,7 +8,7 @@ use Rattle.transcript_law.proofs.invariant.Agreement.{ChangeFits, BegunAgrees, F
 use Rattle.transcript_law.proofs.links.Firsts.{first_answers}
 use Rattle.transcript_law.proofs.links.Comings.{item_comes}
 use Rattle.transcript_law.proofs.links.Sent.{found_below, drop_found, take_found, frames_behind, over_tail, change_readable, all_found, drop_whole}
-use Rattle.{dcp_producer.specs.Frames.{act_sent}, transcript_law.specs.Lawfulness.{line_act}, vb_types.specs.declared.change.Act.{Act}, vb_types.specs.declared.change.Act.TheVariants.{Set}}
+use Rattle.{dcp_producer.specs.Frames.{act_sent}, transcript_law.specs.Lawfulness.{line_act}, transcript_law.specs.StreamLaws.{IsOfSource, IsUnreplaced}, vb_types.specs.declared.change.Act.{Act}, vb_types.specs.declared.change.Act.TheVariants.{Set}}
 use Rattle.{takeover.specs.GivingUp.{new_give_up}, takeover.specs.declared.give_up.GiveStep.TheVariants.{AwaitActive, AwaitPending}, takeover.specs.declared.give_up.GiveUp.{GiveUp}, vb_types.specs.declared.role.Role.{Role}}
 
 -- what items of a snapshot say, and one more
@@ -46,7 +46,7 @@ next_item_of b stream c begun e = (
 -- and then the lines tell of one item more
 begun_more : (o : Option Begun) (stream : PlainStream) (c : Change) → BegunAgrees o stream → slice_get stream.items stream.next ≡ Some c → BegunAgrees (option_map (more_items (item_of_change c)) o) (past_item c.seq stream)
 begun_more None stream c begun e = begun
-begun_more (Some b) stream c begun e = (begun.0, more_is_told b stream c begun e)
+begun_more (Some b) stream c begun e = (begun.0, more_is_told b stream c begun e, begun.2)
 
 -- an item that is to come is put
 none_behind : {A : Type 0} (o vb : ℕ) (items : List Change) (next : ℕ) (c : Change) → slice_get items next ≡ Some c → items_frames o vb (drop next items) ≡ [] → A
@@ -92,6 +92,7 @@ item_streaming {fv} {kn} {pv} {leader} {asker = asker} {put = put} t c f opens e
       };
       feed = t.feed;
       fed = t.fed;
+      sources = t.sources;
       log_fits = t.log_fits;
       seen = t.seen;
       taking = t.taking;
@@ -100,6 +101,8 @@ item_streaming {fv} {kn} {pv} {leader} {asker = asker} {put = put} t c f opens e
           vb_is = t.streams.vb_is;
           opaque_is = t.streams.opaque_is;
           no_end = record { until = t.streams.no_end.until; marked = t.streams.no_end.marked };
+          first_is = t.streams.first_is;
+          marked_is = t.streams.marked_is ∙ sym same;
           fits = t.streams.fits;
           next_in = let l = found_below t.stream.items t.stream.next c e in omega arith;
           last = begun_more g.last t.stream c t.streams.last e;
@@ -137,15 +140,15 @@ whole_unput {asker = asker} t whole = t.unput_is ∙ ap (items_frames asker.aske
 -- one more frame behind all of them
 put_behind : {fv : Wants} {kn : Member} {pv : Option Plain} {leader : Member} {g : Option Granted} {served : PlainProducer} {asker : PlainConsumer} {up put : List Frame} (t : Streaming fv kn pv leader g served asker up put) (tail : List Frame) (f : Frame)
     → length t.stream.items ≤ t.stream.next → tail ≡ tail_frames asker.asked asker.dialed.vb t.handing t.granted_is.over ++ f ∷ []
-    → drop t.seen (first_answers asker.dialed ++ answer_frame asker.asked t.feed.log AskAnswer.Go ∷ []) ++ stream_frames asker.asked asker.dialed.vb tail (is_granted asker.dialed t.seen && not fv.first) kn.position kn.coming t.feed.flight ≡ (put ++ f ∷ []) ++ t.unput
+    → drop t.seen (first_answers asker.dialed ++ answer_frame asker.asked t.feed.log AskAnswer.Go ∷ []) ++ stream_frames asker.asked asker.dialed.vb tail (is_granted asker.dialed t.seen && not fv.first) kn.position kn.coming t.snapshots ≡ (put ++ f ∷ []) ++ t.unput
 put_behind {fv} {kn} {asker = asker} {put = put} t tail f whole is =
     let o : ℕ = asker.asked in
     let vb : ℕ = asker.dialed.vb in
     let in_one : Bool = is_granted asker.dialed t.seen && not fv.first in
     let front : List Frame = drop t.seen (first_answers asker.dialed ++ answer_frame o t.feed.log AskAnswer.Go ∷ []) in
     let none : t.unput ≡ [] = whole_unput t whole in
-    ap (λ fs. front ++ stream_frames o vb fs in_one kn.position kn.coming t.feed.flight) is
-    ∙ frames_behind o vb in_one kn.position kn.coming t.feed.flight (tail_frames o vb t.handing t.granted_is.over) front put f (t.all ∙ ap (λ u. put ++ u) none ∙ append-nil put)
+    ap (λ fs. front ++ stream_frames o vb fs in_one kn.position kn.coming t.snapshots) is
+    ∙ frames_behind o vb in_one kn.position kn.coming t.snapshots (tail_frames o vb t.handing t.granted_is.over) front put f (t.all ∙ ap (λ u. put ++ u) none ∙ append-nil put)
     ∙ sym (append-nil (put ++ f ∷ []))
     ∙ ap (λ u. (put ++ f ∷ []) ++ u) (sym none)
 
@@ -176,6 +179,7 @@ end_streaming {asker = asker} t f opens ended whole is given =
       };
       feed = t.feed;
       fed = t.fed;
+      sources = t.sources;
       log_fits = t.log_fits;
       seen = t.seen;
       taking = t.taking;
@@ -267,6 +271,7 @@ state_streaming {pv = pv} {leader = leader} {asker = asker} {up = up} t next tol
         };
         feed = t.feed;
         fed = t.fed;
+        sources = t.sources;
         log_fits = t.log_fits;
         seen = t.seen;
         taking = record {
@@ -283,6 +288,8 @@ state_streaming {pv = pv} {leader = leader} {asker = asker} {up = up} t next tol
             vb_is = t.streams.vb_is;
             opaque_is = t.streams.opaque_is;
             no_end = record { until = t.streams.no_end.until; marked = t.streams.no_end.marked };
+            first_is = t.streams.first_is;
+            marked_is = t.streams.marked_is;
             fits = t.streams.fits;
             next_in = t.streams.next_in;
             last = begun_stated t.granted_is.last t.stream (state_gives next) t.streams.last;
@@ -306,9 +313,9 @@ state_streaming {pv = pv} {leader = leader} {asker = asker} {up = up} t next tol
 -- ---- an item's line
 
 -- the snapshot of an item
-pub begun_of : (o : Option Begun) (stream : PlainStream) (c : Change) → BegunAgrees o stream → slice_get stream.items stream.next ≡ Some c → (b : Begun) × (o ≡ Some b) × IsNextItem b (item_of_change c)
+pub begun_of : (o : Option Begun) (stream : PlainStream) (c : Change) → BegunAgrees o stream → slice_get stream.items stream.next ≡ Some c → (b : Begun) × (o ≡ Some b) × IsNextItem b (item_of_change c) × IsOfSource b (item_of_change c)
 begun_of None stream c begun e = let z : None ≡ Some c = sym (ap (λ xs. slice_get xs stream.next) begun) ∙ e in cc
-begun_of (Some b) stream c begun e = (b, refl, next_item_of b stream c begun e)
+begun_of (Some b) stream c begun e = (b, refl, next_item_of b stream c begun e, λ d. (c, all_found (IsUnreplaced b.history b.end) stream.items stream.next c (begun.2 d) e, refl))
 
 -- a producer sends each act by the name that its line tells
 pub sent_is_told : (what : Act) → act_sent what ≡ line_act what

@@ -21,7 +21,7 @@ use Rattle.std.specs.FinMap as finite
 use Rattle.{std.proofs.lemmas.Bool.{false_from_ne_true, and_parts}, transcript_law.specs.Chronicles.{DiskKnown, after_roll, disk_back, known_batch}, transcript_law.specs.Lawfulness.{IsFarthest, IsSavedEnd}, vb_calls.specs.Following.{cas_of, rolled_vb}}
 use Rattle.{vb_calls.specs.declared.calls.VbAnswer.TheVariants.{Named, Num}, vb_calls.specs.declared.calls.VbCall.TheVariants.{Ask, RollTo}}
 use Rattle.{vb_types.specs.declared.status.Status.TheVariants.{NotMyVbucket}}
-use Rattle.vb_calls.specs.Flushes.{read_job, roll_job, roll_to_job, rollable_job, rolled_job}
+use Rattle.vb_calls.specs.Flushes.{read_job, roll_job, roll_to_job, rollable_job, rolled_by, rolled_job}
 use Rattle.vb_calls.specs.Shelves.{Append, Book, DiskFailed, Fate, Idle, Keep, Read, Shelf, Shelves, Shut, Stood, WasClosed, after_fate, shelf_step, late_of, with_shelf_at}
 use Rattle.vb_journal.specs.UnderArms.{all_pass, burnt_noting}
 use Rattle.vb_disk.specs.declared.fuse.Fuse.TheVariants.{Off}
@@ -278,6 +278,6 @@ module _ (states : States) (shelves : Shelves) (v named : ℕ) (fv : Plain) (she
   stood_came opens pass = read_came false opens
       ∙ ask_on asked_states read_shelves v (Append (noted.Roll point)) (rolled_job v shelf.book point) shelf noted_shelf Stood (shelf_found shelves v shelf) (appended_is true opens pass)
       ∙ ask_on asked_states noted_shelves v (Keep Idle) (λ done. roll_to_job v shelf.book point) noted_shelf (rolled_shelf shelf point) tt (shelf_found read_shelves v noted_shelf) refl
-      ∙ call_on asked_states (with_shelf_at noted_shelves v (rolled_shelf shelf point)) v (RollTo point (image_at shelf.book point) (cas_of_last shelf.book)) (λ reply. Ended (rolled_as.To point)) fv rolled_to (quiet_reply (Num point)) (put_found states v fv)
+      ∙ call_on asked_states (with_shelf_at noted_shelves v (rolled_shelf shelf point)) v (RollTo point (image_at shelf.book point) (cas_of_last shelf.book)) (λ reply. Ended (rolled_by reply)) fv rolled_to (quiet_reply (Num point)) (put_found states v fv)
       (ap (λ b. if b then (rolled_to, quiet_reply (Num point)) else (fv, refusal_reply NotMyVbucket)) follows)
       ∙ (λ i. ((put_over states v fv rolled_to i, (shelf_over read_shelves v noted_shelf (rolled_shelf shelf point) ∙ shelf_over shelves v shelf (rolled_shelf shelf point)) i), rolled_as.To point))

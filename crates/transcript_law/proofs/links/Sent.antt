@@ -2,12 +2,12 @@
 use Rattle.std.specs.Prelude.{◌≡◌, ◌+◌, ◌<◌, ◌≤◌, ◌∷◌, ◌++◌}
 use Rattle.transcript_law.proofs.Words.{IsOf, ℕ, zero, suc, List, [], Option, Position, Frame, Role, length, drop, take, refl, ap, sym, ◌∙◌, subst, inl, inr, ⊎_elim, arith, append-nil, append_assoc, Some, None}
 use Rattle.transcript_law.proofs.{Words.{slice_get, ◌^◌, All, Readable, dcp_frame, Act, Change, Doc, IsIn, plain_act, flight_end, act_message, STATE_CHANGED}, invariant.Agreement.{DocFits, ChangeFits, ActFits}}
-use Rattle.transcript_law.proofs.invariant.Agreement.{change_frame, items_frames, flight_frames, stream_frames, tail_frames, coming_items, marker_start, Handing, is_sending}
+use Rattle.transcript_law.proofs.invariant.Agreement.{change_frame, items_frames, flight_frames, flight_of, stream_frames, tail_frames, coming_items, marker_start, Handing, is_sending}
 use Rattle.{std.proofs.lemmas.List.{drop_all}, std.specs.Prelude.{Bool, true, false}, vb_types.specs.Histories.{plain}, vb_types.specs.declared.change.Act.TheVariants.{Abort, Commit, Prepare, Remove, Set}}
 use Rattle.mcbp_dcp.specs.declared.message.DcpMsg.TheVariants as msg
 pub use Rattle.std.proofs.lemmas.Option.{slice_get_within as found_below}
 use Rattle.dcp_consumer.specs.PassiveStreams.{commit_act}
-use Rattle.dcp_producer.specs.Frames.{ALL_SENT, prepare_message}
+use Rattle.dcp_producer.specs.Frames.{ALL_SENT, marker_flags, prepare_message}
 use Rattle.transcript_law.proofs.links.Frames.{readable}
 use Rattle.vb_types.specs.declared.change.Level.{Level}
 
@@ -116,9 +116,9 @@ change_readable c o v f few l = told_readable c c.act o v f f.act few l
 
 -- and so are those of a marker and of a stream's end
 
-pub marker_readable : (start end o v : ℕ) → o < 2 ^ 32 → v < 1024 → Readable (dcp_frame (msg.SnapshotMarker start end 1) o v)
+pub marker_readable : (start end flags o v : ℕ) → o < 2 ^ 32 → v < 1024 → Readable (dcp_frame (msg.SnapshotMarker start end flags) o v)
 unfolding dcp_frame
-marker_readable start end o v few l = search arith
+marker_readable start end flags o v few l = search arith
 
 pub end_readable : (o v : ℕ) → o < 2 ^ 32 → v < 1024 → Readable (dcp_frame (msg.StreamEnd STATE_CHANGED) o v)
 unfolding dcp_frame
@@ -134,28 +134,33 @@ state_readable told o v few l = readable (msg.SetVbucketState told) o v tt tt fe
 
 -- frames of lists of changes and of snapshots
 
-pub flight_frames_push : (o v start end : ℕ) (items : List Change) (flight : List (ℕ × List Change))
-    → flight_frames o v [] start (flight ++ (end, items) ∷ []) ≡ flight_frames o v [] start flight ++ (dcp_frame (msg.SnapshotMarker (flight_end start flight) end 1) o v ∷ items_frames o v items)
-flight_frames_push o v start end items [] = ap (λ fs. dcp_frame (msg.SnapshotMarker start end 1) o v ∷ fs) (append-nil (items_frames o v items))
-flight_frames_push o v start end items (x ∷ more) = ap (λ fs. dcp_frame (msg.SnapshotMarker start x.0 1) o v ∷ fs)
-    (ap (λ fs. items_frames o v x.1 ++ fs) (flight_frames_push o v x.0 end items more)
-    ∙ sym (append_assoc (items_frames o v x.1) (flight_frames o v [] x.0 more) (dcp_frame (msg.SnapshotMarker (flight_end x.0 more) end 1) o v ∷ items_frames o v items)))
+pub flight_frames_push : (o v start end : ℕ) (disk : Bool) (items : List Change) (snapshots : List (Bool × (ℕ × List Change)))
+    → flight_frames o v [] start (snapshots ++ (disk, (end, items)) ∷ []) ≡ flight_frames o v [] start snapshots ++ (dcp_frame (msg.SnapshotMarker (flight_end start (flight_of snapshots)) end (marker_flags disk)) o v ∷ items_frames o v items)
+flight_frames_push o v start end disk items [] = ap (λ fs. dcp_frame (msg.SnapshotMarker start end (marker_flags disk)) o v ∷ fs) (append-nil (items_frames o v items))
+flight_frames_push o v start end disk items (s ∷ more) = ap (λ fs. dcp_frame (msg.SnapshotMarker start s.1.0 (marker_flags s.0)) o v ∷ fs)
+    (ap (λ fs. items_frames o v s.1.1 ++ fs) (flight_frames_push o v s.1.0 end disk items more)
+    ∙ sym (append_assoc (items_frames o v s.1.1) (flight_frames o v [] s.1.0 more) (dcp_frame (msg.SnapshotMarker (flight_end s.1.0 (flight_of more)) end (marker_flags disk)) o v ∷ items_frames o v items)))
+
+-- none are on their way
+pub none_sourced : (snapshots : List (Bool × (ℕ × List Change))) → flight_of snapshots ≡ [] → snapshots ≡ []
+none_sourced [] e = refl
+none_sourced (s ∷ more) e = cc
 
 -- what is behind them
-pub flight_frames_tail : (o v : ℕ) (tail : List Frame) (start : ℕ) (flight : List (ℕ × List Change)) → flight_frames o v tail start flight ≡ flight_frames o v [] start flight ++ tail
+pub flight_frames_tail : (o v : ℕ) (tail : List Frame) (start : ℕ) (snapshots : List (Bool × (ℕ × List Change))) → flight_frames o v tail start snapshots ≡ flight_frames o v [] start snapshots ++ tail
 flight_frames_tail o v tail start [] = refl
-flight_frames_tail o v tail start (x ∷ more) = ap (λ fs. dcp_frame (msg.SnapshotMarker start x.0 1) o v ∷ fs)
-    (ap (λ fs. items_frames o v x.1 ++ fs) (flight_frames_tail o v tail x.0 more)
-    ∙ sym (append_assoc (items_frames o v x.1) (flight_frames o v [] x.0 more) tail))
+flight_frames_tail o v tail start (s ∷ more) = ap (λ fs. dcp_frame (msg.SnapshotMarker start s.1.0 (marker_flags s.0)) o v ∷ fs)
+    (ap (λ fs. items_frames o v s.1.1 ++ fs) (flight_frames_tail o v tail s.1.0 more)
+    ∙ sym (append_assoc (items_frames o v s.1.1) (flight_frames o v [] s.1.0 more) tail))
 
 -- one frame more behind all of them
-pub frames_behind : (o v : ℕ) (in_one : Bool) (p : Position) (coming : Option (List Change)) (flight : List (ℕ × List Change)) (tail front put : List Frame) (f : Frame)
-    → front ++ stream_frames o v tail in_one p coming flight ≡ put → front ++ stream_frames o v (tail ++ f ∷ []) in_one p coming flight ≡ put ++ f ∷ []
-frames_behind o v in_one p coming flight tail front put f old =
-    let start : ℕ = marker_start in_one p in let here : List Frame = items_frames o v (coming_items coming) in let there : List Frame = flight_frames o v [] start flight in
-    ap (λ fs. front ++ (here ++ fs)) (flight_frames_tail o v (tail ++ f ∷ []) start flight ∙ sym (append_assoc there tail (f ∷ [])) ∙ ap (λ fs. fs ++ f ∷ []) (sym (flight_frames_tail o v tail start flight)))
-    ∙ ap (λ fs. front ++ fs) (sym (append_assoc here (flight_frames o v tail start flight) (f ∷ [])))
-    ∙ sym (append_assoc front (here ++ flight_frames o v tail start flight) (f ∷ []))
+pub frames_behind : (o v : ℕ) (in_one : Bool) (p : Position) (coming : Option (List Change)) (snapshots : List (Bool × (ℕ × List Change))) (tail front put : List Frame) (f : Frame)
+    → front ++ stream_frames o v tail in_one p coming snapshots ≡ put → front ++ stream_frames o v (tail ++ f ∷ []) in_one p coming snapshots ≡ put ++ f ∷ []
+frames_behind o v in_one p coming snapshots tail front put f old =
+    let start : ℕ = marker_start in_one p in let here : List Frame = items_frames o v (coming_items coming) in let there : List Frame = flight_frames o v [] start snapshots in
+    ap (λ fs. front ++ (here ++ fs)) (flight_frames_tail o v (tail ++ f ∷ []) start snapshots ∙ sym (append_assoc there tail (f ∷ [])) ∙ ap (λ fs. fs ++ f ∷ []) (sym (flight_frames_tail o v tail start snapshots)))
+    ∙ ap (λ fs. front ++ fs) (sym (append_assoc here (flight_frames o v tail start snapshots) (f ∷ [])))
+    ∙ sym (append_assoc front (here ++ flight_frames o v tail start snapshots) (f ∷ []))
     ∙ ap (λ fs. fs ++ f ∷ []) old
 
 -- the tail of a stream that puts its snapshots, and what the stream's end adds to one

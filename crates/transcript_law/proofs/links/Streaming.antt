@@ -1,6 +1,7 @@
 -- a stream's frames, as its consumer takes them
 use Rattle.std.specs.Prelude.{◌≡◌, ◌<◌, ◌≤◌, ◌∷◌, ◌++◌, ◌&&◌, ◌^◌}
 use Rattle.dcp_consumer.specs.Machine.{is_streaming}
+use Rattle.dcp_producer.specs.Frames.{marker_flags}
 use Rattle.transcript_law.proofs.links.{DownAsks.{counted_consumer, waits_last}, Downing.{answered_streams}}
 use Rattle.transcript_law.specs.{TakeoverNotes.{is_role_of}, Tellings.{is_of_down}}
 use Rattle.transcript_law.proofs.{Words.{eq-eqb}, invariant.Agreement.{flight_marks}, balance.Levels.{Has}, links.{Downing.{EndsSo}, Takes.{PendsIn, is_own_end, took_more, took_of}}, verbs.Tellings.{same_place}}
@@ -11,7 +12,7 @@ use Rattle.transcript_law.proofs.Words.{marker_fits, marked_vb, is_next, with_re
 use Rattle.transcript_law.proofs.{Words.{go_on_with, call_made, frame_taken, ItemLine, Chronicle, with_at, held_more, past_next, past_mark, after_line, after_lines, item_of_change, LawfulLine}, links.Sent.{act_told, change_line}}
 use Rattle.transcript_law.proofs.{invariant.Agreement.{change_frame}, lines.Lines.{IsQuiet}, invariant.Seats.{seat, seat_one}, invariant.Agreement.{vb_of, ChangeFits, image_is, AgreesAt, own_history, VbAgrees, ConsumerIs, Streaming, LinkAgrees}}
 use Rattle.transcript_law.proofs.{links.Firsts.{Next, first_answers, first_count, next_answer, waits_after}, links.Requests.{answers_count, few_first, waits_streaming}}
-use Rattle.transcript_law.proofs.invariant.Agreement.{AckedIs, acked_still, StreamAgrees, is_granted, coming_items, flight_items, ComingIs, items_frames, end_frames, flight_frames, marker_start, spoken, stream_frames, top, consumer_seat}
+use Rattle.transcript_law.proofs.invariant.Agreement.{AckedIs, acked_still, StreamAgrees, is_granted, coming_items, flight_items, ComingIs, items_frames, end_frames, flight_frames, flight_of, marker_start, spoken, Sourced, stream_frames, top, consumer_seat}
 use Rattle.transcript_law.proofs.{invariant.Agreement.{wants_of, EndsStand, UpIs, vb_row, vb_contents, DialAgrees}, invariant.Carrying.{TakenOf}, invariant.OneLink.{put_here, put_there, consumer_quiet}, links.Comings.{next_item_line}, links.Rolling.{not_for}}
 use Rattle.transcript_law.proofs.{links.AckLines.{due_going}, links.Acknowledging.{due_none, on_stream}, invariant.Tables.{is_dialed, range_here, range_there, at_there, changed_here, changed_there, never}, links.Taken.{next_covers, next_of, next_fits, range_is_lawful, got_is_lawful, go_frame}}
 use Rattle.transcript_law.proofs.{links.Taken.{is_none, stream_adopted, stream_marked, stream_received, first_taken, go_taken, marker_taken, change_taken, end_taken}, links.Followed.{came_of, own_is, adopt_is, adopted_agrees}}
@@ -21,7 +22,7 @@ use Rattle.vb_calls.specs.Shelves.{Shelf}
 use Rattle.branch_model.specs.Journals.{place_of}
 use Rattle.transcript_law.proofs.{invariant.Agreement.{DiskIsIf, shelf_of}, disks.Disks.{ShelfIs, parts_of, sealed_spots, shelf_spanned}, invariant.OneLink.{disk_here, disk_there}, Words.{with_seal}}
 use Rattle.{cluster_model.specs.Clusters.{Disk, Names, spanned, spanned_by, NextNames, Stands, set_node, marked_member}, dcp_consumer.specs.Machine.{answered, streaming as streaming_after}, dcp_consumer.specs.declared.handshake.Dialed.{Dialed}, std.proofs.lemmas.List.{drop_all}}
-use Rattle.{mcbp_dcp.specs.declared.message.DcpMsg.TheVariants.{SnapshotMarker, StreamEnd}, node_core.specs.Dials.{message_result, adopt_result, due_requested, is_broken}, std.proofs.lemmas.Bool.{true_from_ne_false}, std.specs.Prelude.{min}}
+use Rattle.{mcbp_dcp.specs.declared.message.DcpMsg.TheVariants.{SnapshotMarker, StreamEnd}, node_core.specs.Dials.{message_result, adopt_result, due_requested}, std.proofs.lemmas.Bool.{true_from_ne_false}, std.specs.Prelude.{min}}
 use Rattle.{vb_events.specs.declared.event.EndReason.TheVariants.{Protocol, State}, vb_events.specs.declared.event.StreamName.TheVariants.{Link}}
 use Rattle.vb_events.specs.declared.event.Event.TheVariants as event
 use Rattle.vb_calls.specs.declared.calls.VbCall.TheVariants as call
@@ -52,7 +53,7 @@ module _ (line : Line) (course : Course line) where
   open line use {w, r, link}
   open line.link.consumer.dialed use {node as n, vb as v, link as l}
   open line.link.server.desk use {node as p}
-  open course use {before.{stays, f, rest, states, at, events, met, going, at.{asked as o}, going.{cluster as c}}, streaming, streaming.{feed, granted_is.{over}}}
+  open course use {before.{stays, f, rest, states, at, events, met, going, at.{asked as o}, going.{cluster as c}}, streaming, streaming.{feed, snapshots, granted_is.{over}}}
 
   abbrev pub dial : Dialed
   dial = link.consumer.dialed
@@ -85,7 +86,7 @@ module _ (line : Line) (course : Course line) where
   tail = tail_frames o v handed over
 
   abbrev behind : List Frame
-  behind = stream_frames o v tail in_one kn.position kn.coming feed.flight
+  behind = stream_frames o v tail in_one kn.position kn.coming snapshots
 
   -- the frames that are to come behind it, but for those that are dropped
   abbrev pub more : List Frame
@@ -123,6 +124,7 @@ module _ (line : Line) (course : Course line) where
         serving = streaming.serving;
         feed = feed;
         fed = streaming.fed;
+        sources = streaming.sources;
         log_fits = streaming.log_fits;
         seen = suc streaming.seen;
         taking = record {
@@ -135,7 +137,7 @@ module _ (line : Line) (course : Course line) where
           asks = λ q. streaming.asks (ap (λ b. b && not fv.first) before);
         };
         streams = subst (λ b. StreamAgrees o v streaming.granted_is streaming.stream (vb_of (now line states at) p v) (c.nodes (seat p v)) feed kn (b && not fv.first) handed) same streaming.streams;
-        all = ap (λ b. drop (suc streaming.seen) (all_answers dial (go_frame o feed)) ++ stream_frames o v tail (b && not fv.first) kn.position kn.coming feed.flight) (sym same) ∙ e;
+        all = ap (λ b. drop (suc streaming.seen) (all_answers dial (go_frame o feed)) ++ stream_frames o v tail (b && not fv.first) kn.position kn.coming snapshots) (sym same) ∙ e;
       }) course.stated)
 
   -- what a call that was made carries over, where one line tells of it
@@ -233,6 +235,7 @@ module _ (line : Line) (course : Course line) where
         serving = streaming.serving;
         feed = feed;
         fed = refl;
+        sources = streaming.sources;
         log_fits = streaming.log_fits;
         seen = last;
         taking = record {
@@ -246,8 +249,8 @@ module _ (line : Line) (course : Course line) where
         };
         streams = subst (λ b. StreamAgrees o v streaming.granted_is streaming.stream (vb_of (now line states at) p v) (c.nodes (seat p v)) feed kn' b handed) (sym (ap (λ b. b && not fv'.first) granted_last)) (stream_adopted none
             (subst (λ b. StreamAgrees o v streaming.granted_is streaming.stream (vb_of (now line states at) p v) (c.nodes (seat p v)) feed kn b handed) start streaming.streams));
-        all = (λ i. none_behind i ++ stream_frames o v tail (granted_last i && not fv'.first) kn.position (Some []) feed.flight)
-            ∙ sym (ap (λ y. stream_frames o v tail in_one kn.position y feed.flight) none ∙ ap (λ b. stream_frames o v tail b kn.position None feed.flight) start) ∙ e;
+        all = (λ i. none_behind i ++ stream_frames o v tail (granted_last i && not fv'.first) kn.position (Some []) snapshots)
+            ∙ sym (ap (λ y. stream_frames o v tail in_one kn.position y snapshots) none ∙ ap (λ b. stream_frames o v tail b kn.position None snapshots) start) ∙ e;
       })
       refl
 
@@ -282,11 +285,11 @@ module _ (line : Line) (course : Course line) where
   consumer_now : streaming.seen ≡ last → ConsumerIs (end_of line at None) last
   consumer_now all = record { waits = granted_now all ∙ sym (waits_streaming dial); small = streaming.consumer.small }
 
-  marker_on : (x : ℕ × List Change) (later : List (ℕ × List Change)) → streaming.seen ≡ last → kn.coming ≡ Some [] → feed.flight ≡ x ∷ later → items_frames o v x.1 ++ flight_frames o v tail x.0 later ≡ more ++ streaming.unput
+  marker_on : (x : ℕ × List Change) (later : List (ℕ × List Change)) (behind : Sourced later) → streaming.seen ≡ last → kn.coming ≡ Some [] → feed.flight ≡ x ∷ later → items_frames o v x.1 ++ flight_frames o v tail x.0 behind.snapshots ≡ more ++ streaming.unput
       → (b : Bool) → marker_fits fv.position fv.first start x.0 ≡ b → Reached line rest (after_job (lift (call_made (call.Marker start x.0) s)) states.0 states.1)
   unfolding call_made
-  marker_on x later all none flight e false a = over_reached at Protocol refl tt (call.Marker start x.0) (message_result s) _ (marker_is fv start x.0 false follows a) refl
-  marker_on x later all none flight e true a =
+  marker_on x later behind all none flight e false a = over_reached at Protocol refl tt (call.Marker start x.0) (message_result s) _ (marker_is fv start x.0 false follows a) refl
+  marker_on x later behind all none flight e true a =
       let fv' : Plain = marked_vb fv start x.0 in let kn' : Member = marked_by kn feed (x ∷ later) in let whole = covers x later flight in
       let from : flight_from kn kn.coming ≡ kn.position.at = ap (flight_from kn) none in
       let above : kn.position.at < x.0 = subst (λ y. y < x.0) from whole.0.goes_on in
@@ -309,22 +312,23 @@ module _ (line : Line) (course : Course line) where
         serving = streaming.serving;
         feed = record feed { flight = later };
         fed = refl;
+        sources = behind;
         log_fits = streaming.log_fits;
         seen = last;
         taking = record { not_more = omega arith; consumer = consumer_now all; adopted = sym granted_last; taken_is = streaming.taken_is; flag_is = streaming.flag_is; granted_first = λ q. granted_last; asks = λ q. never (sym inside ∙ q) };
         streams = subst (λ b. StreamAgrees o v (past_mark streaming.granted_is) streaming.stream (vb_of (now line states at) p v) (c.nodes (seat p v)) (record feed { flight = later }) kn' b handed) (sym inside)
             (stream_marked x later in_one none flight above ends streaming.streams);
-        all = (λ i. none_behind i ++ stream_frames o v tail (inside i) kn'.position kn'.coming later) ∙ e;
+        all = (λ i. none_behind i ++ stream_frames o v tail (inside i) kn'.position kn'.coming behind.snapshots) ∙ e;
       })
       refl
 
-  marker_next : (x : ℕ × List Change) (later : List (ℕ × List Change)) → streaming.seen ≡ last → kn.coming ≡ Some [] → feed.flight ≡ x ∷ later
-      → flight_frames o v tail start (x ∷ later) ≡ f ∷ (more ++ streaming.unput) → Reached line rest (after_job (frame_taken f s) states.0 states.1)
-  marker_next x later all none flight e =
-      let same : dcp_frame (SnapshotMarker start x.0 1) o v ≡ f = cc in let low : x.0 ≤ 2 ^ 48 = (covers x later flight).1 in
+  marker_next : (disk : Bool) (x : ℕ × List Change) (later : List (Bool × (ℕ × List Change))) → streaming.seen ≡ last → kn.coming ≡ Some [] → feed.flight ≡ x ∷ flight_of later
+      → flight_frames o v tail start ((disk, x) ∷ later) ≡ f ∷ (more ++ streaming.unput) → Reached line rest (after_job (frame_taken f s) states.0 states.1)
+  marker_next disk x later all none flight e =
+      let same : dcp_frame (SnapshotMarker start x.0 (marker_flags disk)) o v ≡ f = cc in let low : x.0 ≤ 2 ^ 48 = (covers x (flight_of later) flight).1 in
       subst (λ y. Reached line rest (after_job (frame_taken y s) states.0 states.1)) same
-      (subst (λ y. Reached line rest (after_job y states.0 states.1)) (sym (marker_taken start x.0 o v s (start_low kn.position in_one position_within.0 position_within.1 position_within.2) (omega arith) (granted_now all)))
-      (marker_on x later all none flight (ap (drop 1) e) (marker_fits fv.position fv.first start x.0) refl))
+      (subst (λ y. Reached line rest (after_job y states.0 states.1)) (sym (marker_taken start x.0 disk o v s (start_low kn.position in_one position_within.0 position_within.1 position_within.2) (omega arith) (granted_now all)))
+      (marker_on x (flight_of later) (record { snapshots = later; are = refl }) all none flight (ap (drop 1) e) (marker_fits fv.position fv.first start x.0) refl))
 
   -- what waits at a key, in the vBucket and in its member
   waits_at : (key : List ℕ) → pending_of fv key ≡ get (image_of kn.held).pending key
@@ -347,7 +351,7 @@ module _ (line : Line) (course : Course line) where
 
   -- a change comes inside a snapshot
 
-  receive_on : (x : Change) (later : List Change) → streaming.seen ≡ last → kn.coming ≡ Some (x ∷ later) → ChangeFits x → items_frames o v later ++ flight_frames o v tail start feed.flight ≡ more ++ streaming.unput
+  receive_on : (x : Change) (later : List Change) → streaming.seen ≡ last → kn.coming ≡ Some (x ∷ later) → ChangeFits x → items_frames o v later ++ flight_frames o v tail start snapshots ≡ more ++ streaming.unput
       → (b : Bool) → is_next fv.position x.seq ≡ b → (o : Option Act) → completed_act (pending_of fv x.key) (act_told x.act) ≡ o → Reached line rest (after_job (lift (call_made (call.Receive (change_line x)) s)) states.0 states.1)
   unfolding call_made
   receive_on x later all coming fits e false a o d = over_reached at Protocol refl tt (call.Receive (change_line x)) (message_result s) _ (receive_is fv x false o follows a d) refl
@@ -359,7 +363,7 @@ module _ (line : Line) (course : Course line) where
       let up : fv.position.at < x.seq = grind (arith, nat_tests, a) in
       let inside : in_one ≡ true = true_from_ne_false in_one (λ q. let none : x ∷ later ≡ [] = sym (ap coming_items coming) ∙ streaming.streams.not_in_one q in cc) in
       let begun : (is_granted dial last && not fv.first) ≡ true = ap (λ b. b && not fv.first) granted_last ∙ (and_parts (is_granted dial streaming.seen) (not fv.first) inside).1 in
-      let next : NextTold x later = next_item_line o v start handed over streaming.stream x later more streaming.unput streaming.unput_is streaming.all_put streaming.stated_behind feed.flight streaming.granted_is.coming
+      let next : NextTold x later = next_item_line o v start handed over streaming.stream x later more streaming.unput streaming.unput_is streaming.all_put streaming.stated_behind snapshots feed.flight streaming.are streaming.granted_is.coming
       (subst (ComingIs streaming.granted_is.coming streaming.stream feed.flight) coming streaming.streams.coming) e in
       let told' : Chronicle = record told { held = held_more told n v x; open_at = with_at told.open_at n v true } in
       let disk : Disk = spanned_by (c.disks k) kn (Some (x ∷ later)) in
@@ -386,22 +390,23 @@ module _ (line : Line) (course : Course line) where
         serving = streaming.serving;
         feed = feed;
         fed = streaming.fed;
+        sources = streaming.sources;
         log_fits = streaming.log_fits;
         seen = last;
         taking = record { not_more = omega arith; consumer = consumer_now all; adopted = sym granted_last; taken_is = streaming.taken_is; flag_is = streaming.flag_is; granted_first = λ q. granted_last; asks = λ q. never (sym begun ∙ q) };
         streams = subst (λ b. StreamAgrees o v (past_next streaming.granted_is) streaming.stream (vb_of (now line states at) p v) (c.nodes (seat p v)) feed kn' b handed) (sym begun)
             (stream_received x later coming next
             (subst (λ b. StreamAgrees o v streaming.granted_is streaming.stream (vb_of (now line states at) p v) (c.nodes (seat p v)) feed kn b handed) inside streaming.streams));
-        all = (λ i. none_behind i ++ (items_frames o v later ++ flight_frames o v tail (marker_start (begun i) kn'.position) feed.flight))
-            ∙ sym (ap (λ b. items_frames o v later ++ flight_frames o v tail (marker_start b kn.position) feed.flight) inside) ∙ e;
+        all = (λ i. none_behind i ++ (items_frames o v later ++ flight_frames o v tail (marker_start (begun i) kn'.position) snapshots))
+            ∙ sym (ap (λ b. items_frames o v later ++ flight_frames o v tail (marker_start b kn.position) snapshots) inside) ∙ e;
       })
       refl
 
-  receive_next : (x : Change) (later : List Change) → streaming.seen ≡ last → kn.coming ≡ Some (x ∷ later) → items_frames o v (x ∷ later) ++ flight_frames o v tail start feed.flight ≡ f ∷ (more ++ streaming.unput)
+  receive_next : (x : Change) (later : List Change) → streaming.seen ≡ last → kn.coming ≡ Some (x ∷ later) → items_frames o v (x ∷ later) ++ flight_frames o v tail start snapshots ≡ f ∷ (more ++ streaming.unput)
       → Reached line rest (after_job (frame_taken f s) states.0 states.1)
   receive_next x later all coming e =
       let fits : ChangeFits x = next_fits (busy_at line (f ∷ rest)) (now line states at) told c k feed going.agrees streaming.fed x later coming in
-      let frames : change_frame o v x ∷ (items_frames o v later ++ flight_frames o v tail start feed.flight) ≡ f ∷ (more ++ streaming.unput) = e in
+      let frames : change_frame o v x ∷ (items_frames o v later ++ flight_frames o v tail start snapshots) ≡ f ∷ (more ++ streaming.unput) = e in
       let same : change_frame o v x ≡ f = cc in
       subst (λ y. Reached line rest (after_job (frame_taken y s) states.0 states.1)) same
       (subst (λ y. Reached line rest (after_job y states.0 states.1)) (sym (change_taken x x.act o v s fits refl (granted_now all)))
@@ -431,13 +436,13 @@ module _ (line : Line) (course : Course line) where
 
     -- a frame behind the answers
     stream_next : streaming.seen ≡ last → behind ≡ f ∷ (more ++ streaming.unput) → Reached line rest (after_job (frame_taken f s) states.0 states.1)
-    stream_next all e = by kn.coming refl feed.flight refl
+    stream_next all e = by kn.coming refl snapshots refl
       where
-        by : (o' : Option (List Change)) → kn.coming ≡ o' → (xs : List (ℕ × List Change)) → feed.flight ≡ xs → Reached line rest (after_job (frame_taken f s) states.0 states.1)
+        by : (o' : Option (List Change)) → kn.coming ≡ o' → (xs : List (Bool × (ℕ × List Change))) → snapshots ≡ xs → Reached line rest (after_job (frame_taken f s) states.0 states.1)
         by None q xs fl = never (sym granted_last ∙ sym (ap (is_granted dial) all) ∙ sym streaming.adopted ∙ ap is_some q)
-        by (Some []) q [] fl = tail_next handed refl all q fl (sym ((λ i. stream_frames o v tail in_one kn.position (q i) (fl i))) ∙ e)
-        by (Some []) q (x ∷ later) fl = marker_next x later all q fl (sym ((λ i. stream_frames o v tail in_one kn.position (q i) (fl i))) ∙ e)
-        by (Some (x ∷ later)) q xs fl = receive_next x later all q (sym (ap (λ y. stream_frames o v tail in_one kn.position y feed.flight) q) ∙ e)
+        by (Some []) q [] fl = tail_next handed refl all q (sym streaming.are ∙ ap flight_of fl) (sym ((λ i. stream_frames o v tail in_one kn.position (q i) (fl i))) ∙ e)
+        by (Some []) q (s ∷ later) fl = marker_next s.0 s.1 later all q (sym streaming.are ∙ ap flight_of fl) (sym ((λ i. stream_frames o v tail in_one kn.position (q i) (fl i))) ∙ e)
+        by (Some (x ∷ later)) q xs fl = receive_next x later all q (sym (ap (λ y. stream_frames o v tail in_one kn.position y snapshots) q) ∙ e)
 
     -- the next frame of a link with a stream
     pub streaming_next : Reached line rest (after_job (frame_taken f s) states.0 states.1)

@@ -19,7 +19,7 @@ use Rattle.mcbp_dcp.specs.declared.message.StreamVerdict.TheVariants as told
 use Rattle.vb_types.specs.declared.stream.AskAnswer.TheVariants as ask_answer
 use Rattle.dcp_consumer.specs.declared.handshake.Handshake.TheVariants as waiting
 use Rattle.dcp_consumer.specs.declared.handshake.ConsumerStep.TheVariants as step
-use Rattle.dcp_producer.specs.Frames.{flag_number, prepare_message}
+use Rattle.dcp_producer.specs.Frames.{flag_number, marker_flags, prepare_message}
 use Rattle.vb_types.specs.Levels.{level_number, level_of}
 use Rattle.vb_types.proofs.Levels.{level_back}
 use Rattle.mcbp_dcp.specs.declared.message.Prepare.{Prepare as Prepared}
@@ -121,10 +121,15 @@ message_read m p n v s i r w q none stateless e =
     ∙ ap (λ b. if b then step.Noop f.opaque else step.Passive (passive_of m)) none
     ∙ ap step.Passive e)
 
-pub marker_taken : (start end n v : ℕ) (s : DialResult) → start < 2 ^ 64 → end < 2 ^ 64 → s.dial.consumer.handshake ≡ waiting.Streaming
-    → frame_taken (dcp_frame (msg.SnapshotMarker start end 1) n v) s ≡ lift (call_made (Marker start end) s)
+-- a marker, wherever its snapshot was taken from
+pub marker_taken : (start end : ℕ) (disk : Bool) (n v : ℕ) (s : DialResult) → start < 2 ^ 64 → end < 2 ^ 64 → s.dial.consumer.handshake ≡ waiting.Streaming
+    → frame_taken (dcp_frame (msg.SnapshotMarker start end (marker_flags disk)) n v) s ≡ lift (call_made (Marker start end) s)
 unfolding dcp_frame call_of_message
-marker_taken start end n v s a b w = message_read (msg.SnapshotMarker start end 1) (Call (Marker start end)) n v s tt (a, b, omega arith) w refl refl refl refl
+marker_taken start end disk n v s a b w = message_read (msg.SnapshotMarker start end (marker_flags disk)) (Call (Marker start end)) n v s tt (a, b, flags_small disk) w refl refl refl refl
+  where
+    flags_small : (disk : Bool) → marker_flags disk < 2 ^ 32
+    flags_small true = omega arith
+    flags_small false = omega arith
 
 -- the end of the stream, which a change of role at its producer's vBucket ended
 pub end_taken : (n v : ℕ) (s : DialResult) → s.dial.consumer.handshake ≡ waiting.Streaming → frame_taken (dcp_frame (msg.StreamEnd STATE_CHANGED) n v) s ≡ Ended (over_for State s)

@@ -1,24 +1,25 @@
 -- one frame of a link's producer: an item, the marker of the next snapshot, a state, the stream's end, or nothing
 use Rattle.std.specs.Prelude.{◌≡◌, ◌+◌, ◌<◌, ◌≤◌, ◌++◌, if◌then◌else◌, ◌∷◌, ◌&&◌, ◌^◌}
 use Rattle.transcript_law.proofs.Words.{All, All-nil, Granted, ℕ, Bool, true, false, [], length, refl, ap, sym, ◌∙◌, subst, List, Option, Some, None, slice_get, Frame, Event}
-use Rattle.transcript_law.proofs.Words.{DcpMsg, dcp_frame, Act, Change, StreamName, Member, Cluster, TakesSnapshots, Done, Turn, after, after_bind, row_at, row_put, States, past_item, item_line, act_message}
+use Rattle.transcript_law.proofs.Words.{DcpMsg, dcp_frame, Change, StreamName, Member, Cluster, TakesSnapshots, Done, Turn, after, row_at, row_put, States, past_item, item_line, act_message}
 use Rattle.transcript_law.proofs.Words.{STATE_CHANGED, Halt, PlainStream, Served, PlainLink, link_number, producer_node, consumer_node, PlainNode, PlainWorld, Role, StreamAsk}
-use Rattle.transcript_law.proofs.Words.{Begun, Chronicle, is_dial_of, with_item, finished, after_lines, item_of_change, IsNextItem, Readable, inl, inr, ⊎_elim, arith, nat_tests, is_some, not, eq-eqb, ne_eqb}
+use Rattle.transcript_law.proofs.Words.{Chronicle, is_dial_of, with_item, finished, after_lines, item_of_change, Readable, inl, inr, ⊎_elim, arith, nat_tests, is_some, not, eq-eqb, ne_eqb}
 use Rattle.transcript_law.proofs.Words.{Position, Snapshot, Covers, effective_se, fork_of, hist, hist_rises, Rises, ground, Move, SoundCluster, Linked, happens, flight_from, flight_end, start_cases, keeps, VbReply, Stream, Span}
 use Rattle.transcript_law.proofs.Words.{Plain, all_spans, stream_at, end_span, is_active, take_to, take_from, with_vb_at, call_at, stream_branch, with_begun, IsMarker, LawfulMark}
-use Rattle.transcript_law.proofs.invariant.Agreement.{acked_still, vb_of, is_granted, is_refused_ack, spoken, FeederIn, FollowsBy, Handing, follows_in, gives_in, is_sending, stated_in, BegunAgrees, kept_stream, Streaming, consumer_seat, producer_seat, LinkAgrees, IsLow, idle, AgreesIn, wants_of, EndsStand, own_history, VbAgrees}
+use Rattle.transcript_law.proofs.invariant.Agreement.{acked_still, vb_of, is_granted, is_refused_ack, spoken, FeederIn, FollowsBy, Handing, follows_in, gives_in, is_sending, stated_in, kept_stream, Streaming, consumer_seat, producer_seat, LinkAgrees, IsLow, idle, AgreesIn, wants_of, EndsStand, own_history, VbAgrees}
 use Rattle.transcript_law.proofs.{invariant.Agreement.{AgreesAt, Open, top}, invariant.Noted.{CameIf, KeptFor, NotedStream}, invariant.OneLink.{carries_producer, disk_here, disk_there}}
-use Rattle.transcript_law.proofs.{links.Sent.{not_found, end_readable, marker_readable}, links.Putting.{StatesNext, begun_of, sent_is_told, item_handing, item_streaming, end_handing, end_streaming, item_readable, state_gives, stated_stream}, links.Marking.{whole_if, items_fit, moved_there}}
+use Rattle.transcript_law.proofs.{links.Sent.{end_readable, marker_readable}, links.Putting.{StatesNext, begun_of, sent_is_told, item_handing, item_streaming, end_handing, end_streaming, item_readable, state_gives, stated_stream}, links.Marking.{whole_if, items_fit, moved_there}}
+use Rattle.transcript_law.proofs.invariant.FirstMarks.{sent_as_given}
 use Rattle.transcript_law.proofs.{links.Marking.{covers_more, moved_vb, sent_member, taken_stream, start_is, reaches, marker_handing, marker_lawful, marker_streaming, SnapshotTaken, taken_is, span_snapshot}, links.PumpWorlds.{others_stream, LinkKnown, OwnedBy, owned_one, kept_one, noted_one, pumped_shelves, served_link, pumped, so_far_again, stepped_one, SoFar}}
 use Rattle.transcript_law.proofs.{links.PutFrames.{dialed_vb, downs_with, end_with, found_here, given_as, link_with, named, numbered, put_agrees, put_with, relinked_twice, stands_with}, links.StateTurns.{handed_is, marked_in, turned_is, state_so_far, stated_next, takes_none, waits_on, waits_saved, waits_state}}
-use Rattle.transcript_law.proofs.{links.Spoken.{message_spoken}, links.PumpWorlds.{TurnsSoFar, told_stream, so_far_more, pumped_here, pumped_powers, pumped_where, once_same, twice_here, twice_there, twice_same}, links.Windows.{so_far_turned}, lines.Pulling.{lets_through}, invariant.Seats.{seat_one}}
+use Rattle.transcript_law.proofs.{links.Spoken.{message_spoken}, links.PumpWorlds.{TurnsSoFar, told_stream, so_far_more, pumped_here, pumped_powers, pumped_where, once_same, twice_here, twice_there, twice_same}, links.Windows.{so_far_turned}, invariant.Seats.{seat_one}}
 use Rattle.transcript_law.proofs.{links.Followed.{own_is}, invariant.Forked.{held_covers}, invariant.Carrying.{Changed, Became, FedMember, FeedChanged, NoNewStream}, invariant.Carried.{sound_streams, no_writer, talk_same}}
-use Rattle.{cluster_model.specs.Clusters.{MaySend, sent}, dcp_producer.specs.declared.next_frame.Waits.{Waits}, dcp_producer.specs.Frames.{Next, act_sent, alive_next, none_next, close_sent, item_next, marker_flags, marker_next, next_by, next_frame, over, place_requested, place_said, placed_next, quiet, reaches_end, take_answered, taken_next}}
-use Rattle.{dcp_producer.proofs.OneStream.{one_came, one_frame_of}, dcp_producer.specs.Pulling.{Pulling, none_quiet, one_frame, pull_of}, dcp_producer.specs.declared.desk.Desk.{Desk}, mcbp_dcp.specs.declared.message.DcpMsg.TheVariants.{SetVbucketState, SnapshotMarker, StreamEnd}, std.proofs.lemmas.Bool.{false_from_ne_true}, takeover.specs.declared.take_over.TakeOver.{TakeOver}}
-use Rattle.{transcript_law.specs.Chronicles.{with_changed}, transcript_law.specs.Lawfulness.{line_act}, vb_calls.specs.Streams.{is_in_memory, place_reply}, vb_types.specs.declared.stream.Place.TheVariants.{Memory, WaitSaved}, vb_calls.specs.declared.calls.VbCall.TheVariants.{Place, Take}, vb_events.specs.declared.event.StreamName.TheVariants.{Link}}
+use Rattle.{cluster_model.specs.Clusters.{MaySend, sent}, dcp_producer.specs.declared.next_frame.Waits.{Waits}, dcp_producer.specs.Firsts.{as_sent, first_of}, dcp_producer.specs.Frames.{Next, act_sent, alive_next, none_next, close_sent, item_next, marker_flags, marker_next, next_by, over, place_requested, place_said, placed_next, quiet, reaches_end, take_answered, taken_next}}
+use Rattle.{dcp_producer.proofs.OneStream.{one_came}, dcp_producer.specs.Pulling.{Pulling}, dcp_producer.specs.declared.desk.Desk.{Desk}, mcbp_dcp.specs.declared.message.DcpMsg.TheVariants.{SetVbucketState, SnapshotMarker, StreamEnd}, std.proofs.lemmas.Bool.{false_from_ne_true}, takeover.specs.declared.take_over.TakeOver.{TakeOver}}
+use Rattle.{transcript_law.specs.Chronicles.{with_changed}, transcript_law.specs.Lawfulness.{line_act}, vb_calls.specs.Streams.{is_in_memory, place_from, placed_by}, vbucket.proofs.Fed.{feeds_moved}, vb_calls.specs.declared.calls.VbCall.TheVariants.{Place, Take}, vb_events.specs.declared.event.StreamName.TheVariants.{Link}}
 use Rattle.transcript_law.proofs.{links.Idling.{active_is, all_put_by, no_more, none_told, put_whole}, links.PumpEnds.{act_none, marker_none, none_ends, so_ends}, lines.Takeovers.{lines_takeovers}}
 use Rattle.vb_events.specs.declared.event.Event.TheVariants as event
-use Rattle.transcript_law.{proofs.Words.{last_seq}, specs.Feeding.{HasOpen}, specs.LinesTold.{TakeoverKnown}, specs.Undone.{AllPut, HasNoMore}}
+use Rattle.transcript_law.{proofs.Words.{last_seq}, proofs.links.Sources.{from_memory}, specs.Lawfulness.{stream_saved}, specs.StreamLaws.{IsFromSource, IsUnreplaced}, specs.Feeding.{HasOpen}, specs.LinesTold.{TakeoverKnown}, specs.Undone.{AllPut, HasNoMore}}
 
 module _ (w : PlainWorld) (r : Chronicle) (l : ℕ) (link : PlainLink) (node : PlainNode) (found : row_at link_number l w.links ≡ Some link) (states : States) (s : Served) (g : SoFar w r l link node states s) where
   -- the vBucket at both ends
@@ -51,7 +52,7 @@ module _ (w : PlainWorld) (r : Chronicle) (l : ℕ) (link : PlainLink) (node : P
     name = s.end.desk.stream
 
     -- what the stream's next frame comes to
-    abbrev Comes : States × Next → Type 0
+    abbrev pub Comes : States × Next → Type 0
     Comes x = Goal (x.0, one_came s x.1)
 
     abbrev kn : Member
@@ -110,14 +111,14 @@ module _ (w : PlainWorld) (r : Chronicle) (l : ℕ) (link : PlainLink) (node : P
     noted_gone turned f line after = record { noted = record { dialed = g.known.noted.dialed; each = All-nil _ }; owned = All-nil _; kept = All-nil _ }
 
     -- an item is put
-    item_turn : (item : Change) → slice_get t.stream.items t.stream.next ≡ Some item → Comes (states, item_next name t.stream item)
+    pub item_turn : (item : Change) → slice_get t.stream.items t.stream.next ≡ Some item → Comes (states, item_next name t.stream item)
     item_turn item e =
         let m : DcpMsg = act_message item item.act in let f : Frame = dcp_frame m t.stream.opaque t.stream.vb in let line : Event = item_line name item in
         let left : List PlainStream = past_item item.seq t.stream ∷ [] in
-        let (b, last, next) = begun_of t.granted_is.last t.stream item t.streams.last e in (
+        let (b, last, next, source) = begun_of t.granted_is.last t.stream item t.streams.last e in (
           so_far_more w r l link node states states s (end_with s left 1 f line).end f (s.count + 1) line (event.Item (Link l) item.seq (line_act item.act) item.key) g
               (ap (λ (n : StreamName). event.Item n item.seq (act_sent item.act) item.key) named_here ∙ ap (λ a. event.Item (Link l) item.seq a item.key) (sent_is_told item.act)) tt
-              (t.granted_is, b, (vb, dialed, told), opens, last, next) g.desk (
+              (t.granted_is, b, (vb, dialed, told), opens, last, next, source) g.desk (
                 c,
                 frame_agrees left 1 f line (with_item (item_of_change item)) (λ g. refl) (item_readable t item f e la.small.1 (frame_is m)) (message_spoken m t.stream.opaque t.stream.vb)
                     (λ v id has. subst (HasOpen v id) (sym kept) has) (item_streaming t item f opens e (frame_is m) (given (with_item (item_of_change item)))) (item_handing t item f opens e (frame_is m) (given (with_item (item_of_change item)))),
@@ -147,7 +148,7 @@ module _ (w : PlainWorld) (r : Chronicle) (l : ℕ) (link : PlainLink) (node : P
 
     -- the stream is open at its producer's vBucket
     module _ (going : t.stream.ended ≡ false) where
-      abbrev at : Open t.stream.id t.granted_is (vb_of now (producer_node here) vb) leader t.feed t.handing
+      abbrev pub at : Open t.stream.id t.granted_is (vb_of now (producer_node here) vb) leader t.feed t.handing
       at = t.streams.opens going
 
       open at use {producer as p}
@@ -196,7 +197,7 @@ module _ (w : PlainWorld) (r : Chronicle) (l : ℕ) (link : PlainLink) (node : P
         now_after = pumped w l link node states_after end_after
 
         abbrev marker_read : Chronicle
-        marker_read = with_changed read (Link l) (with_begun read.tree snapshot.start end)
+        marker_read = with_changed read (Link l) (with_begun read.tree snapshot.start end (marker_flags snapshot.disk))
 
         asks : in_one ≡ false → (t.granted_is.ask.start ≡ kn.position.at) × (t.granted_is.ask.ss ≡ kn.position.ss) × (t.granted_is.ask.se ≡ kn.position.se)
         asks q =
@@ -275,14 +276,18 @@ module _ (w : PlainWorld) (r : Chronicle) (l : ℕ) (link : PlainLink) (node : P
 
         -- and its marker is on its way
 
-        marker_is : marker ≡ dcp_frame (SnapshotMarker snapshot.start end 1) here.consumer.asked vb
-        marker_is = λ i. dcp_frame (SnapshotMarker snapshot.start end (marker_flags (taken.disk i))) (t.streams.opaque_is i) (t.streams.vb_is i)
+        marker_is : marker ≡ dcp_frame (SnapshotMarker snapshot.start end (marker_flags snapshot.disk)) here.consumer.asked vb
+        marker_is = λ i. dcp_frame (SnapshotMarker snapshot.start end (marker_flags snapshot.disk)) (t.streams.opaque_is i) (t.streams.vb_is i)
 
         marker_is_lawful : LawfulMark read (Link l) snapshot.start end (marker_flags snapshot.disk)
         marker_is_lawful =
             let is : IsMarker read.tree t.granted_is snapshot.start end = subst (λ n. IsMarker read.tree t.granted_is n end) (sym taken.starts)
             (marker_lawful t.streams o asked placed before asks read.tree snapshot.items end opens whole taken.need covers_told) in
-            (t.granted_is, (vb, dialed, told), is, ap marker_flags taken.disk)
+            (t.granted_is, (vb, dialed, told), is, subst (λ b. IsFromSource (marker_flags b) end (stream_saved read (Link l))) (sym taken.disk) (from_memory end (stream_saved read (Link l))))
+
+        -- it is not from the journal
+        lasts : snapshot.disk ≡ true → All (IsUnreplaced (hist read.tree (stream_branch t.granted_is)) end) snapshot.items
+        lasts from = let z : false ≡ true = sym taken.disk ∙ from in cc
 
         -- it ends at a seqno
         low : end ≤ top
@@ -290,12 +295,12 @@ module _ (w : PlainWorld) (r : Chronicle) (l : ℕ) (link : PlainLink) (node : P
 
         -- its consumer is to take it
         abbrev marker_streamed : Streaming (wants_of la.follower) (sent_member kn t.feed snapshot.items end) (vb_of now_after (producer_node here) vb) leader (marker_read.stream_of (Link (link_number here)) vb) (record here.server { streams = left }) here.consumer la.talk.asked (spoken la.talk.said ++ marker ∷ [])
-        marker_streamed = marker_streaming t read.tree snapshot.items snapshot.start end marker at sending opens low whole (items_fit snapshot.items leader.held covers_all.remains.of producer_agrees.fits)
-            (subst (λ n. Covers snapshot.items (hist read.tree (stream_branch t.granted_is)) n end) placed covers_told) (start_is t.streams o asked placed before asks t.granted_is.last refl ∙ sym taken.starts) marker_is became.here (given (with_begun read.tree snapshot.start end))
+        marker_streamed = marker_streaming t read.tree snapshot.items snapshot.start end snapshot.disk marker at sending opens low whole (items_fit snapshot.items leader.held covers_all.remains.of producer_agrees.fits)
+            (subst (λ n. Covers snapshot.items (hist read.tree (stream_branch t.granted_is)) n end) placed covers_told) lasts (start_is t.streams o asked placed before asks t.granted_is.last refl ∙ sym taken.starts) marker_is became.here (given (with_begun read.tree snapshot.start end (marker_flags snapshot.disk)))
 
         marker_still : marker_streamed.handing ≡ t.handing
-        marker_still = marker_handing t read.tree snapshot.items snapshot.start end marker at sending opens low whole (items_fit snapshot.items leader.held covers_all.remains.of producer_agrees.fits)
-            (subst (λ n. Covers snapshot.items (hist read.tree (stream_branch t.granted_is)) n end) placed covers_told) (start_is t.streams o asked placed before asks t.granted_is.last refl ∙ sym taken.starts) marker_is became.here (given (with_begun read.tree snapshot.start end))
+        marker_still = marker_handing t read.tree snapshot.items snapshot.start end snapshot.disk marker at sending opens low whole (items_fit snapshot.items leader.held covers_all.remains.of producer_agrees.fits)
+            (subst (λ n. Covers snapshot.items (hist read.tree (stream_branch t.granted_is)) n end) placed covers_told) lasts (start_is t.streams o asked placed before asks t.granted_is.last refl ∙ sym taken.starts) marker_is became.here (given (with_begun read.tree snapshot.start end (marker_flags snapshot.disk)))
 
         -- a marker was put
         marker_so_far : SoFar w r l link node states_after (put_with s left 1 marker marker_line)
@@ -305,13 +310,13 @@ module _ (w : PlainWorld) (r : Chronicle) (l : ℕ) (link : PlainLink) (node : P
               cluster_after,
               carries_producer idle idle now now_after read marker_read c cluster_after l here link_after t.stream.id p moved a here_is (record { dialed = refl; desk = refl })
                   at.producer_is
-                  (record { sound = sound_streams p moved.streams producer_agrees.sound; alone = refl; others = λ x ne. moved_there t.stream.id end x p.streams ne })
+                  (record { sound = sound_streams p moved.streams producer_agrees.sound (feeds_moved p.role p.floor t.stream.id end p.streams o producer_agrees.sound.feeds opened (let low = taken.fed in let above : o.place < end = taken.covers.goes_on in omega (arith, low, above))); alone = refl; others = λ x ne. moved_there t.stream.id end x p.streams ne })
                   became (pumped_shelves w l link node states states_after s end_after (producer_node here) vb) (inl (subst (HasOpen vb t.stream.id) (sym kept) (inl (t.streams.vb_is, refl, going))))
-                  (λ v k has. ⊎_elim (λ h. (sym h.0 ∙ t.streams.vb_is, sym h.1)) (λ none. absurd none) has) (told_stream read l (with_begun read.tree snapshot.start end)) feed_changed sound_after (λ k ne. refl) (record {
+                  (λ v k has. ⊎_elim (λ h. (sym h.0 ∙ t.streams.vb_is, sym h.1)) (λ none. absurd none) has) (told_stream read l (with_begun read.tree snapshot.start end (marker_flags snapshot.disk))) feed_changed sound_after (λ k ne. refl) (record {
                     follower = la.follower;
                     follower_is = became.there (consumer_node here) vb (λ q e. t.apart (sym q)) ∙ la.follower_is;
                     follows = la.follows;
-                    acks = acked_still _ (with_begun read.tree snapshot.start end) (read.stream_of (Link (link_number here)) vb) here.consumer.acked (λ g. refl) la.acks;
+                    acks = acked_still _ (with_begun read.tree snapshot.start end (marker_flags snapshot.disk)) (read.stream_of (Link (link_number here)) vb) here.consumer.acked (λ g. refl) la.acks;
                     dial = la.dial;
                     talk = talk_same member_after refl (others_after (producer_seat here) (λ q. t.apart (seat_one (producer_node here) vb (consumer_node here) vb q).0)) refl refl refl (record {
                       asked = la.talk.asked;
@@ -319,13 +324,13 @@ module _ (w : PlainWorld) (r : Chronicle) (l : ℕ) (link : PlainLink) (node : P
                       stands = stands_with w r l link node found states s g c a la left 1 marker marker_line (sent_member kn t.feed snapshot.items end) leader marker_read now_after (message_spoken (SnapshotMarker snapshot.start end (marker_flags snapshot.disk)) t.stream.opaque t.stream.vb)
                           (EndsStand.IsStreaming marker_streamed (stated ∙ ap stated_in (sym marker_still)));
                       ups = la.talk.ups;
-                      downs = downs_with w r l link node found states s g c a la left 1 marker marker_line (subst Readable (sym marker_is) (marker_readable snapshot.start end here.consumer.asked vb t.consumer.small la.small.1));
+                      downs = downs_with w r l link node found states s g c a la left 1 marker marker_line (subst Readable (sym marker_is) (marker_readable snapshot.start end (marker_flags snapshot.disk) here.consumer.asked vb t.consumer.small la.small.1));
                     });
                   }),
             )
-            (noted_on left 1 marker marker_line (with_begun read.tree snapshot.start end) (taken_stream t.stream snapshot.items end) refl refl refl (λ g. refl))
+            (noted_on left 1 marker marker_line (with_begun read.tree snapshot.start end (marker_flags snapshot.disk)) (taken_stream t.stream snapshot.items end) refl refl refl (λ g. refl))
             (stepped_one l link.server.streams s.end.streams s.events (event.Marked (Link l) snapshot.start end (marker_flags snapshot.disk)) t.stream (taken_stream t.stream snapshot.items end) kept refl refl refl g.stepped)
-            (marked_in w r l link node found states s g c a la t stated kept going sending) (eq-eqb l l refl) (others_stream w read l (with_begun read.tree snapshot.start end)) (subst Readable (sym marker_is) (marker_readable snapshot.start end here.consumer.asked vb t.consumer.small la.small.1)) (none_ends r link marker (marker_none t.stream.opaque t.stream.vb snapshot.start end (marker_flags snapshot.disk)))
+            (marked_in w r l link node found states s g c a la t stated kept going sending) (eq-eqb l l refl) (others_stream w read l (with_begun read.tree snapshot.start end (marker_flags snapshot.disk))) (subst Readable (sym marker_is) (marker_readable snapshot.start end (marker_flags snapshot.disk) here.consumer.asked vb t.consumer.small la.small.1)) (none_ends r link marker (marker_none t.stream.opaque t.stream.vb snapshot.start end (marker_flags snapshot.disk)))
 
       -- what is taken is put, and else the states are the same
 
@@ -356,27 +361,29 @@ module _ (w : PlainWorld) (r : Chronicle) (l : ℕ) (link : PlainLink) (node : P
       gives_alive h b e f = ap (λ b. after (if b then Done (over STATE_CHANGED t.stream) else alive_next name t.stream t.stream.gives) states) going ∙ ap (λ o. after (alive_next name t.stream o) states) (t.gives_is ∙ (λ i. gives_in (f i) (e i)))
 
       -- the vBucket is asked where the stream's changes come from
-      abbrev Places : Type 0
+      abbrev pub Places : Type 0
       Places = after (next_by name t.stream None) states ≡ after (place_requested name t.stream) states
 
-      placed_turn : Places → (o : Stream) → stream_at t.stream.id p.streams ≡ Some o → after (next_by name t.stream None) states ≡ after (placed_next name t.stream (place_said (Some (place_reply p.floor (Some o))))) (with_vb_at states t.stream.vb p)
+      abbrev Placed : Bool → Bool → Stream → States × Next
+      Placed has_one near o = after (placed_next name t.stream (place_said (Some (placed_by has_one near o p).1))) (with_vb_at states t.stream.vb (placed_by has_one near o p).0)
+
+      placed_turn : Places → (o : Stream) → stream_at t.stream.id p.streams ≡ Some o → after (next_by name t.stream None) states ≡ Placed o.cursor (is_in_memory p o.place) o
       placed_turn places o opened =
           let v : ℕ = t.stream.vb in let id : ℕ = t.stream.id in
           places
           ∙ ap (λ x. after (placed_next name t.stream (place_said (call_at states v (Place id) x).1)) (call_at states v (Place id) x).0) has
-          ∙ ap (λ x. after (placed_next name t.stream (place_said (Some (place_reply p.floor x)))) (with_vb_at states v p)) opened
+          ∙ ap (λ x. after (placed_next name t.stream (place_said (Some (place_from x p).1))) (with_vb_at states v (place_from x p).0)) opened
 
-      -- not all of them are in memory: the stream waits
-      waited_turn : Places → (o : Stream) → stream_at t.stream.id p.streams ≡ Some o → is_in_memory p.floor o ≡ false → after (next_by name t.stream None) states ≡ (with_vb_at states t.stream.vb p, quiet Waits.Saved t.stream)
-      waited_turn places o opened far = placed_turn places o opened
-          ∙ ap (λ b. after (placed_next name t.stream (Some (if b then Memory else WaitSaved))) (with_vb_at states t.stream.vb p)) far
+      -- it has no cursor, and not all of them are in memory: the stream waits
+      waited_turn : Places → (o : Stream) → stream_at t.stream.id p.streams ≡ Some o → o.cursor ≡ false → is_in_memory p o.place ≡ false → after (next_by name t.stream None) states ≡ (with_vb_at states t.stream.vb p, quiet Waits.Saved t.stream)
+      waited_turn places o opened none far = placed_turn places o opened ∙ (λ i. Placed (none i) (far i) o)
 
-      -- all are: it was asked for the next snapshot
-      asked_turn : Places → (o : Stream) → stream_at t.stream.id p.streams ≡ Some o → is_in_memory p.floor o ≡ true → after (next_by name t.stream None) states ≡ taken_turn (take_to (end_span o (all_spans p.spans) p.held) o p)
+      -- it has one: it was asked for the next snapshot
+      asked_turn : Places → (o : Stream) → stream_at t.stream.id p.streams ≡ Some o → o.cursor ≡ true → after (next_by name t.stream None) states ≡ taken_turn (take_to (end_span o (all_spans p.spans) p.held) o p)
       asked_turn places o opened near =
           let v : ℕ = t.stream.vb in let id : ℕ = t.stream.id in let first : States = with_vb_at states v p in
           placed_turn places o opened
-          ∙ ap (λ b. after (placed_next name t.stream (Some (if b then Memory else WaitSaved))) first) near
+          ∙ ap (λ b. Placed b (is_in_memory p o.place) o) near
           ∙ ap (λ x. ((call_at first v (Take id) x).0, take_answered name t.stream (call_at first v (Take id) x).1)) (ap (λ b. if b then Some p else states v) (eq-eqb v v refl))
           ∙ ap (λ x. taken_turn (take_from x p)) opened
           ∙ ap (λ b. taken_turn (take_to (if b then end_span o (all_spans p.spans) p.held else None) o p)) near
@@ -392,7 +399,7 @@ module _ (w : PlainWorld) (r : Chronicle) (l : ℕ) (link : PlainLink) (node : P
         pub sync : o.sync ≡ true
         pub placed : o.place ≡ t.granted_is.place
         pub before : o.taken ≡ is_some t.granted_is.last
-        pub near : is_in_memory p.floor o ≡ true
+        pub near : o.cursor ≡ true
         pub ends : end_span o (all_spans p.spans) p.held ≡ None
 
       -- one that is active holds no more for the stream
@@ -404,12 +411,12 @@ module _ (w : PlainWorld) (r : Chronicle) (l : ℕ) (link : PlainLink) (node : P
             whole = put_whole t.granted_is.last t.stream t.streams.last whole;
             active = producer_agrees.role ∙ ap (λ x. Some (Some x)) (active_is p.role active);
             none = none_told t.granted_is o (last_seq 0 (read.held (producer_node here) vb)) p.position.at none.asked none.placed none.before (ap (last_seq 0) producer_agrees.held ∙ producer_agrees.high)
-                (no_more p o producer_agrees.sound none.sync none.near none.ends);
+                (no_more p o producer_agrees.sound none.sync (producer_agrees.sound.feeds.cursors t.stream.id o none.opened none.near) none.ends);
           }))
 
       -- the stream got all of it
       got_all : (o : Stream) → IsNothing o → p.position.at ≤ t.granted_is.place
-      got_all o none = ⊎_elim (λ l. let same = none.placed in omega (arith, l, same)) short (no_more p o producer_agrees.sound none.sync none.near none.ends)
+      got_all o none = ⊎_elim (λ l. let same = none.placed in omega (arith, l, same)) short (no_more p o producer_agrees.sound none.sync (producer_agrees.sound.feeds.cursors t.stream.id o none.opened none.near) none.ends)
         where
           short : (o.taken ≡ false) × (p.position.at < effective_se o.ask.start o.ask.ss o.ask.se) → p.position.at ≤ t.granted_is.place
           short x =
@@ -417,26 +424,32 @@ module _ (w : PlainWorld) (r : Chronicle) (l : ℕ) (link : PlainLink) (node : P
               let above : p.position.at < effective_se t.granted_is.ask.start t.granted_is.ask.ss t.granted_is.ask.se = subst (λ (a : StreamAsk). p.position.at < effective_se a.start a.ss a.se) none.asked x.1 in
               let same : leader.position.at ≡ p.position.at = ap (λ (y : Position). y.at) producer_agrees.member.position in absurd (omega (arith, there, above, same))
 
+      -- the stream has a cursor, or is given none
+      abbrev pub IsPlaced : Type 0
+      IsPlaced = (o : Stream) → stream_at t.stream.id p.streams ≡ Some o → o.cursor ≡ false → is_in_memory p o.place ≡ false
+
       -- what comes behind the items of the snapshot that was taken last, of a stream that puts its snapshots
-      marker_turn : TakesSnapshots → length t.stream.items ≤ t.stream.next → is_sending t.handing ≡ true → Places
+      marker_turn : IsPlaced → TakesSnapshots → length t.stream.items ≤ t.stream.next → is_sending t.handing ≡ true → Places
           → ((o : Stream) → IsNothing o → Comes (with_vb_at (with_vb_at states t.stream.vb p) t.stream.vb p, none_next name t.stream t.stream.gives)) → Comes (after (next_by name t.stream None) states)
-      marker_turn takes whole sending places nothing =
+      marker_turn ready takes whole sending places nothing =
           let (o, opened, asked, sync, placed, before) = at.opened in
-          in_memory (is_in_memory p.floor o) o opened asked sync placed before refl
+          in_memory o.cursor o opened asked sync placed before refl
         where
           by : (o : Stream) → stream_at t.stream.id p.streams ≡ Some o → o.ask ≡ t.granted_is.ask → o.sync ≡ true → o.place ≡ t.granted_is.place → o.taken ≡ is_some t.granted_is.last
-              → is_in_memory p.floor o ≡ true → (x : Option Span) → end_span o (all_spans p.spans) p.held ≡ x → Comes (taken_turn (take_to x o p))
+              → o.cursor ≡ true → (x : Option Span) → end_span o (all_spans p.spans) p.held ≡ x → Comes (taken_turn (take_to x o p))
           by o opened asked sync placed before near None ends = nothing o (record { opened = opened; asked = asked; sync = sync; placed = placed; before = before; near = near; ends = ends })
           by o opened asked sync placed before near (Some win) ends =
               let snapshot : Snapshot = span_snapshot p o win in
               let taken : SnapshotTaken p t.stream.id o snapshot (take_to (Some win) o p).0 = taken_is takes p t.stream.id o win producer_agrees.sound opened sync near ends in
               let moved_is : SnapshotTaken p t.stream.id o snapshot (moved_vb p t.stream.id snapshot.end) = subst (SnapshotTaken p t.stream.id o snapshot) taken.after_is taken in
-              subst (λ x. Comes (with_vb_at (with_vb_at states t.stream.vb p) t.stream.vb x, marker_next name t.stream snapshot)) (sym taken.after_is)
-              (marker_so_far o snapshot moved_is opened asked placed before whole sending, refl)
+              let same : as_sent t.stream snapshot ≡ snapshot = sent_as_given p o win.last t.stream (t.streams.first_is ∙ ap first_of (sym asked)) (t.streams.marked_is ∙ sym before) in
+              subst (λ sent. Comes (with_vb_at (with_vb_at states t.stream.vb p) t.stream.vb (take_to (Some win) o p).0, marker_next name t.stream sent)) (sym same)
+              (subst (λ x. Comes (with_vb_at (with_vb_at states t.stream.vb p) t.stream.vb x, marker_next name t.stream snapshot)) (sym taken.after_is)
+              (marker_so_far o snapshot moved_is opened asked placed before whole sending, refl))
 
           in_memory : (b : Bool) (o : Stream) → stream_at t.stream.id p.streams ≡ Some o → o.ask ≡ t.granted_is.ask → o.sync ≡ true → o.place ≡ t.granted_is.place → o.taken ≡ is_some t.granted_is.last
-              → is_in_memory p.floor o ≡ b → Comes (after (next_by name t.stream None) states)
-          in_memory false o opened asked sync placed before far = subst Comes (sym (waited_turn places o opened far))
+              → o.cursor ≡ b → Comes (after (next_by name t.stream None) states)
+          in_memory false o opened asked sync placed before none = subst Comes (sym (waited_turn places o opened none (ready o opened none)))
               (quiet_so_far (with_vb_at states t.stream.vb p) waiting_so_far, waits_saved w r l link node found states s g c a la t stated kept going sending, record { full = λ e. cc; some = λ e. cc; waiting = λ e. cc })
           in_memory true o opened asked sync placed before near = subst Comes (sym (asked_turn places o opened near)) (by o opened asked sync placed before near (end_span o (all_spans p.spans) p.held) refl)
 
@@ -453,10 +466,20 @@ module _ (w : PlainWorld) (r : Chronicle) (l : ℕ) (link : PlainLink) (node : P
       wait_turn : is_sending t.handing ≡ false → Comes (states, quiet Waits.State t.stream)
       wait_turn rests = (quiet_so_far states g, waits_state w r l link node found states s g c a la t stated kept going rests, record { full = λ e. cc; some = λ e. cc; waiting = λ e. (t.stream, refl, going, waits_on w r l link node found states s g c a la t stated kept going rests) })
 
+      -- one that puts its snapshots asks its vBucket
+      pub asks_place : is_sending t.handing ≡ true → Places
+      asks_place sending = by t.handing link.consumer.dialed.takeover refl refl sending
+        where
+          by : (h : Handing) (b : Bool) → t.handing ≡ h → link.consumer.dialed.takeover ≡ b → is_sending h ≡ true → Places
+          by Handing.Unstated false e f sends = gives_alive Handing.Unstated false e f ∙ ap (λ b. after (if b then close_sent t.stream else place_requested name t.stream) states) endless
+          by Handing.Unstated true e f sends = gives_alive Handing.Unstated true e f
+          by Handing.Ceded b e f sends = gives_alive Handing.Ceded b e f
+          by other b e f sends = cc
+
       -- what comes behind the items, by how far the vBucket is handed over
-      alive_turn : TakesSnapshots → length t.stream.items ≤ t.stream.next → (h : Handing) (b : Bool) → t.handing ≡ h → link.consumer.dialed.takeover ≡ b → Comes (after (next_by name t.stream None) states)
-      alive_turn takes whole Handing.Unstated false e f =
-          marker_turn takes whole (ap is_sending e) (gives_alive Handing.Unstated false e f ∙ ap (λ b. after (if b then close_sent t.stream else place_requested name t.stream) states) endless)
+      pub alive_turn : (is_sending t.handing ≡ true → IsPlaced) → TakesSnapshots → length t.stream.items ≤ t.stream.next → (h : Handing) (b : Bool) → t.handing ≡ h → link.consumer.dialed.takeover ≡ b → Comes (after (next_by name t.stream None) states)
+      alive_turn ready takes whole Handing.Unstated false e f =
+          marker_turn (ready (ap is_sending e)) takes whole (ap is_sending e) (asks_place (ap is_sending e))
           (λ o none. subst (λ x. Comes (with_vb_at (with_vb_at states t.stream.vb p) t.stream.vb p, none_next name t.stream x)) (sym (t.gives_is ∙ (λ i. gives_in (f i) (e i)))) (
             quiet_so_far (with_vb_at (with_vb_at states t.stream.vb p) t.stream.vb p) same_so_far,
             record {
@@ -466,35 +489,19 @@ module _ (w : PlainWorld) (r : Chronicle) (l : ℕ) (link : PlainLink) (node : P
             },
             record { full = λ q. cc; some = λ q. cc; waiting = λ q. cc },
           ))
-      alive_turn takes whole Handing.Unstated true e f = marker_turn takes whole (ap is_sending e) (gives_alive Handing.Unstated true e f)
+      alive_turn ready takes whole Handing.Unstated true e f = marker_turn (ready (ap is_sending e)) takes whole (ap is_sending e) (asks_place (ap is_sending e))
           (λ o none. subst (λ x. Comes (with_vb_at (with_vb_at states t.stream.vb p) t.stream.vb p, none_next name t.stream x)) (sym (t.gives_is ∙ (λ i. gives_in (f i) (e i))))
           (state_turn Handing.Offered Role.Pending (subst (λ h. StatesNext h Handing.Offered Role.Pending) (sym e) StatesNext.Offers) f whole o none))
-      alive_turn takes whole Handing.Ceded b e f = marker_turn takes whole (ap is_sending e) (gives_alive Handing.Ceded b e f)
+      alive_turn ready takes whole Handing.Ceded b e f = marker_turn (ready (ap is_sending e)) takes whole (ap is_sending e) (asks_place (ap is_sending e))
           (λ o none. subst (λ x. Comes (with_vb_at (with_vb_at states t.stream.vb p) t.stream.vb p, none_next name t.stream x)) (sym (t.gives_is ∙ (λ i. gives_in (f i) (e i))))
           (state_turn Handing.Stated Role.Active (subst (λ h. StatesNext h Handing.Stated Role.Active) (sym e) StatesNext.States)
           (handed_is link.consumer.dialed.takeover t.handing t.dialed_so (λ q. let z : Handing.Ceded ≡ Handing.Unstated = sym e ∙ q in cc)) whole o none))
-      alive_turn takes whole Handing.Offered b e f = subst Comes (sym (gives_alive Handing.Offered b e f)) (wait_turn (ap is_sending e))
-      alive_turn takes whole Handing.Pended b e f = subst Comes (sym (gives_alive Handing.Pended b e f)) (wait_turn (ap is_sending e))
-      alive_turn takes whole Handing.Due b e f = subst Comes (sym (gives_alive Handing.Due b e f)) (wait_turn (ap is_sending e))
-      alive_turn takes whole Handing.Stated b e f = subst Comes (sym (gives_alive Handing.Stated b e f)) (wait_turn (ap is_sending e))
+      alive_turn ready takes whole Handing.Offered b e f = subst Comes (sym (gives_alive Handing.Offered b e f)) (wait_turn (ap is_sending e))
+      alive_turn ready takes whole Handing.Pended b e f = subst Comes (sym (gives_alive Handing.Pended b e f)) (wait_turn (ap is_sending e))
+      alive_turn ready takes whole Handing.Due b e f = subst Comes (sym (gives_alive Handing.Due b e f)) (wait_turn (ap is_sending e))
+      alive_turn ready takes whole Handing.Stated b e f = subst Comes (sym (gives_alive Handing.Stated b e f)) (wait_turn (ap is_sending e))
 
-    -- behind the items: the stream's end, or the next marker
-    more_turn : TakesSnapshots → length t.stream.items ≤ t.stream.next → (b : Bool) → t.stream.ended ≡ b → Comes (after (next_by name t.stream None) states)
-    more_turn takes whole true ended =
+    -- the end of a stream that a change of role ended, behind its items
+    pub ended_turn : t.stream.ended ≡ true → length t.stream.items ≤ t.stream.next → Comes (after (next_by name t.stream None) states)
+    ended_turn ended whole =
         subst (λ b. Comes (after (if b then Done (over STATE_CHANGED t.stream) else alive_next name t.stream t.stream.gives) states)) (sym ended) (end_turn ended whole)
-    more_turn takes whole false going = alive_turn going takes whole t.handing link.consumer.dialed.takeover refl refl
-
-    -- the next frame of the stream
-    next_turn : TakesSnapshots → Comes (after (next_frame name t.stream) states)
-    unfolding next_frame
-    next_turn takes = by (slice_get t.stream.items t.stream.next) refl
-      where
-        by : (o : Option Change) → slice_get t.stream.items t.stream.next ≡ o → Comes (after (next_by name t.stream o) states)
-        by None e = more_turn takes (not_found t.stream.items t.stream.next e) t.stream.ended refl
-        by (Some item) e = item_turn item e
-
-    -- the next frame of the connection
-    pub stream_turn : TakesSnapshots → lets_through s.end ≡ true → Goal (after (one_frame (pull_of s none_quiet)) states)
-    stream_turn takes free =
-        subst (λ prog. Goal (after prog states)) (sym (one_frame_of s t.stream kept free))
-        (subst Goal (sym (after_bind (next_frame name t.stream) (λ next. Done (one_came s next)) states)) (next_turn takes))

@@ -88,6 +88,7 @@ acks_left t rest acks = record {
   };
   feed = t.feed;
   fed = t.fed;
+  sources = t.sources;
   log_fits = t.log_fits;
   seen = t.seen;
   taking = t.taking;

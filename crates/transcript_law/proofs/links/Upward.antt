@@ -281,7 +281,7 @@ module _ (w0 : PlainWorld) (r0 : Chronicle) (n : ℕ) (link0 : PlainLink) (found
         producer = subst (AgreesAt r mp v (c.nodes p)) (known_there (Some pv) known) (now.agrees.vbs mp v)
 
         module _ (active : is_active pv.role ≡ true) (free : stream_at (next_stream s.end) pv.streams ≡ None) (ruled : rule pv.log pv.position.at ask ≡ Continue)
-            (st : States) (are : StatesAre x.0.vbs v (record pv { streams = pv.streams ++ new_stream (next_stream s.end) ask true ∷ [] }) st) where
+            (st : States) (are : StatesAre x.0.vbs v (record pv { streams = pv.streams ++ new_stream pv (next_stream s.end) ask true ∷ [] }) st) where
           abbrev fv : Plain
           fv = la.follower
 
@@ -292,7 +292,7 @@ module _ (w0 : PlainWorld) (r0 : Chronicle) (n : ℕ) (link0 : PlainLink) (found
           pn = c.nodes p
 
           abbrev opened : Plain
-          opened = record pv { streams = pv.streams ++ new_stream (next_stream s.end) ask true ∷ [] }
+          opened = record pv { streams = pv.streams ++ new_stream pv (next_stream s.end) ask true ∷ [] }
 
           abbrev s' : Served
           s' = granted_lines s o v ask pv.log pv.position.at

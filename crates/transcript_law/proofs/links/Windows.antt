@@ -65,6 +65,7 @@ module _ {fv : Wants} {kn : Member} {pv : Option Plain} {leader : Member} {g : O
     };
     feed = t.feed;
     fed = t.fed;
+    sources = t.sources;
     log_fits = t.log_fits;
     seen = t.seen;
     taking = t.taking;

@@ -106,6 +106,7 @@ ceded_streaming {fv} {kn} {leader = leader} {asker = asker} {up = up} {put = put
         };
         feed = feed;
         fed = refl;
+        sources = record { snapshots = t.snapshots; are = t.are };
         log_fits = record { short = t.log_fits.short; entries = t.log_fits.entries };
         seen = t.seen;
         taking = record {
@@ -122,6 +123,8 @@ ceded_streaming {fv} {kn} {leader = leader} {asker = asker} {up = up} {put = put
             vb_is = x.vb_is;
             opaque_is = x.opaque_is;
             no_end = record { until = x.no_end.until; marked = x.no_end.marked };
+            first_is = x.first_is;
+            marked_is = x.marked_is;
             fits = x.fits;
             next_in = x.next_in;
             last = begun_left t.granted_is.last t.stream x.last;
@@ -142,7 +145,7 @@ ceded_streaming {fv} {kn} {leader = leader} {asker = asker} {up = up} {put = put
           coming = record { all = x.coming.all; last = x.coming.last };
           way = record { place_is = x.way.place_is; marks = x.way.marks; in_one_last = x.way.in_one_last; taken_one = x.way.taken_one; none_left = x.way.none_left; not_in_one = x.way.not_in_one; in_flight = x.way.in_flight };
         };
-        all = ap (λ h. drop t.seen (first_answers asker.dialed ++ answer_frame asker.asked t.feed.log Go ∷ []) ++ stream_frames asker.asked v (tail_frames asker.asked v h t.granted_is.over) (is_granted asker.dialed t.seen && not fv.first) kn.position kn.coming t.feed.flight) (sym due) ∙ t.all;
+        all = ap (λ h. drop t.seen (first_answers asker.dialed ++ answer_frame asker.asked t.feed.log Go ∷ []) ++ stream_frames asker.asked v (tail_frames asker.asked v h t.granted_is.over) (is_granted asker.dialed t.seen && not fv.first) kn.position kn.coming t.snapshots) (sym due) ∙ t.all;
       },
       refl,
     )

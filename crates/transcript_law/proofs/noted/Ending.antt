@@ -111,10 +111,10 @@ items_none : (o v : ℕ) (xs : List Change) → has_end (items_frames o v xs) �
 items_none o v [] = refl
 items_none o v (x ∷ xs) = λ i. act_none o v x x.act i || items_none o v xs i
 
-flights_none : (o v : ℕ) (tail : List Frame) (start : ℕ) (flight : List (ℕ × List Change)) → has_end tail ≡ false → has_end (flight_frames o v tail start flight) ≡ false
+flights_none : (o v : ℕ) (tail : List Frame) (start : ℕ) (snapshots : List (Bool × (ℕ × List Change))) → has_end tail ≡ false → has_end (flight_frames o v tail start snapshots) ≡ false
 unfolding dcp_frame
 flights_none o v tail start [] e = e
-flights_none o v tail start (x ∷ more) e = none_both (items_frames o v x.1) (flight_frames o v tail x.0 more) (items_none o v x.1) (flights_none o v tail x.0 more e)
+flights_none o v tail start (s ∷ more) e = none_both (items_frames o v s.1.1) (flight_frames o v tail s.1.0 more) (items_none o v s.1.1) (flights_none o v tail s.1.0 more e)
 
 states_none : (o v : ℕ) (h : Handing) → has_end (state_frames o v h ++ []) ≡ false
 unfolding dcp_frame
@@ -142,10 +142,10 @@ stands_over fv kn pv leader g said point served asker up down (EndsStand.IsStrea
         let front : List Frame = first_answers asker.dialed ++ answer_frame o x.feed.log AskAnswer.Go ∷ [] in
         let tail : has_end (tail_frames o v x.serving.handing x.granted_is.over) ≡ false = ap (λ b. has_end (tail_frames o v x.serving.handing b)) e ∙ states_none o v x.serving.handing in
         let start : ℕ = marker_start (is_granted asker.dialed x.seen && not fv.first) kn.position in
-        let all = none_both (drop x.seen front) (stream_frames o v (tail_frames o v x.serving.handing x.granted_is.over) (is_granted asker.dialed x.seen && not fv.first) kn.position kn.coming x.feed.flight)
+        let all = none_both (drop x.seen front) (stream_frames o v (tail_frames o v x.serving.handing x.granted_is.over) (is_granted asker.dialed x.seen && not fv.first) kn.position kn.coming x.snapshots)
         (none_drop x.seen front (none_both (first_answers asker.dialed) (answer_frame o x.feed.log AskAnswer.Go ∷ []) (firsts_none asker.dialed) (answered_none o x.feed.log AskAnswer.Go)))
-        (none_both (items_frames o v (coming_items kn.coming)) (flight_frames o v (tail_frames o v x.serving.handing x.granted_is.over) start x.feed.flight) (items_none o v (coming_items kn.coming))
-        (flights_none o v (tail_frames o v x.serving.handing x.granted_is.over) start x.feed.flight tail)) in
+        (none_both (items_frames o v (coming_items kn.coming)) (flight_frames o v (tail_frames o v x.serving.handing x.granted_is.over) start x.snapshots) (items_none o v (coming_items kn.coming))
+        (flights_none o v (tail_frames o v x.serving.handing x.granted_is.over) start x.snapshots tail)) in
         let none : has_end down ≡ false = none_front down x.serving.unput (sym (ap has_end x.all) ∙ all) in
         cc
 stands_over fv kn pv leader g said point served asker up down (EndsStand.IsHeir x is) some = ap is_ended x.told ∙ by x.granted_is.over (ap has_end (sym x.end_is) ∙ some)

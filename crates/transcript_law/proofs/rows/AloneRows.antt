@@ -213,20 +213,20 @@ abbrev inside : Granted
 inside = granted (ask_within 0 1 2 5) (log_of 5)
 
 abbrev begun_inside : Granted
-begun_inside = with_begun (granted_inside 2).tree 0 2 inside
+begun_inside = with_begun (granted_inside 2).tree 0 2 1 inside
 
 pub item : LawfulFrom begun_one (next_item_line ∷ [])
-item = ((_, begun 1 2 [], (0, refl, refl), refl, refl, ([], record { whole = next_change ∷ []; covers = next_covers; front = refl }, λ e. refl)), tt)
+item = ((_, begun 1 2 [], (0, refl, refl), refl, refl, ([], record { whole = next_change ∷ []; covers = next_covers; front = refl }, λ e. refl), λ e. cc), tt)
 
 pub item_behind : LawfulFrom ended_inside (next_item_line ∷ []) → ⊥
 item_behind l =
-    let (g, b, stream, opens, last, next) = l.0 in
+    let (g, b, stream, opens, last, next, source) = l.0 in
     let same : finished begun_inside ≡ g = stream_is ended_inside (finished begun_inside) g refl refl stream in
     let e : true ≡ false = ap (λ (x : Granted). x.over) same ∙ opens in cc
 
 pub item_unbegun : LawfulFrom (granted_inside 2) (next_item_line ∷ []) → ⊥
 item_unbegun l =
-    let (g, b, stream, opens, last, next) = l.0 in
+    let (g, b, stream, opens, last, next, source) = l.0 in
     let same : inside ≡ g = stream_is (granted_inside 2) inside g refl refl stream in
     let e : ◌≡◌ {A = Option Begun} None (Some b) = ap (λ (x : Granted). x.last) same ∙ last in cc
 
@@ -241,7 +241,7 @@ first_is (x ∷ xs) told rest e = (x, xs, refl, cc)
 -- an item of the start that the request means is not above it
 pub item_below : LawfulFrom begun_one (first_item_line ∷ []) → ⊥
 item_below l =
-    let (g, b, stream, opens, last, (more, f, ends)) = l.0 in
+    let (g, b, stream, opens, last, (more, f, ends), source) = l.0 in
     let same : begun_inside ≡ g = stream_is begun_one begun_inside g refl refl stream in
     let o : Some (begun 1 2 []) ≡ Some b = ap (λ (x : Granted). x.last) same ∙ last in let is : begun 1 2 [] ≡ b = cc in
     let front : map item_of_change f.whole ≡ first_item ∷ map item_of_change more = f.front ∙ ap (λ (x : Begun). (x.items ++ first_item ∷ []) ++ map item_of_change more) (sym is) in
@@ -260,7 +260,7 @@ sets x c h stands none = ⊎_elim
 pub item_act : LawfulFrom begun_one removed_item → ⊥
 unfolding is_set
 item_act l =
-    let (g, b, stream, opens, last, (more, f, ends)) = l.0 in
+    let (g, b, stream, opens, last, (more, f, ends), source) = l.0 in
     let same : begun_inside ≡ g = stream_is begun_one begun_inside g refl refl stream in
     let o : Some (begun 1 2 []) ≡ Some b = ap (λ (x : Granted). x.last) same ∙ last in let is : begun 1 2 [] ≡ b = cc in
     let told : ItemLine = record { seq = 2; act = ItemAct.Remove; key = 9 ∷ [] } in

@@ -146,6 +146,7 @@ below = record {
   shown = (committed, inr (inr (inl refl)), inr refl);
   held = (committed, inr (inr (inl refl)), refl);
   next = ([], record { whole = as_document ∷ []; covers = document_whole; front = refl }, λ e. refl);
+  unreplaced = λ e. cc;
 } ▹ (λ z. cc) ▹ tt
 
 -- a later snapshot of that stream
@@ -191,6 +192,7 @@ held_so = record {
   shown = (committed, inr (inr (inl refl)), inr refl);
   held = (as_document, inr (inr (inl refl)), refl);
   next = ([], record { whole = held_as_document; covers = held_whole; front = refl }, λ e. refl);
+  unreplaced = λ e. cc;
 } ▹ (λ z. cc) ▹ tt
 
 pub held_commit : LawfulHeld held_as_document durable (one behind_prepare) (sent 0 committed) → ⊥
@@ -224,6 +226,7 @@ turned_document = record {
   shown = (committed, inr (inr (inl refl)), inr refl);
   held = (as_document, inr (inr (inl refl)), refl);
   next = ([], record { whole = held_as_document; covers = held_whole; front = refl }, λ e. refl);
+  unreplaced = λ e. cc;
 } ▹ (λ z. cc) ▹ tt
 
 pub turned_as_commit : LawfulPut durable (one (left_with held_as_document behind_prepare)) (sent 0 committed) → ⊥

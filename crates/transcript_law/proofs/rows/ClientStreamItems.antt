@@ -47,22 +47,27 @@ first_next = (next_change ∷ [], record { whole = two; covers = all_between two
 pub both_next : IsNextItem (snapshot two 0 2 (first_item ∷ [])) next_item
 both_next = ([], record { whole = two; covers = all_between two 0 2 (omega arith) (omega arith, (omega arith, omega arith)) refl; front = refl }, λ e. refl)
 
--- an item of a stream that no frame closed, whose change is as its vBucket holds it
-pub item_still : (chronicle : Chronicle) (known : ClientKnown) (v : ℕ) (c : Change) (g : ClientStream) (b : Begun) (more : List Event) → vb_in_header (spelling (dcp_frame (act_message c c.act) 9 v)) ≡ v → known.streams v ≡ Some g → g.opaque ≡ 9 → is_closed_by (served_frames known) v ≡ false → lets_through (flow_now known).window ≡ true → g.over ≡ false → g.last ≡ Some b → IsIn c b.history → IsSentOf g b (held_for g (chronicle.held 0 v)) c → IsNextItem b (item_of_change c) → LawfulClientItem chronicle known 0 1 (item_of_change c) (frame_of v (act_message c c.act) ∷ more)
+-- a snapshot from memory
+abbrev pub remembered : Begun → Begun
+remembered b = record b { disk = false }
+
+-- an item of it, of a stream that no frame closed, whose change is as its vBucket holds it
+pub item_still : (chronicle : Chronicle) (known : ClientKnown) (v : ℕ) (c : Change) (g : ClientStream) (b : Begun) (more : List Event) → vb_in_header (spelling (dcp_frame (act_message c c.act) 9 v)) ≡ v → known.streams v ≡ Some g → g.opaque ≡ 9 → is_closed_by (served_frames known) v ≡ false → lets_through (flow_now known).window ≡ true → g.over ≡ false → g.last ≡ Some (remembered b) → IsIn c b.history → IsSentOf g (remembered b) (held_for g (chronicle.held 0 v)) c → IsNextItem (remembered b) (item_of_change c) → LawfulClientItem chronicle known 0 1 (item_of_change c) (frame_of v (act_message c c.act) ∷ more)
 item_still chronicle known v c g b more header is nine still through opens last shown sent next = record {
   change = c;
   told = refl;
   put = put_still known (act_message c c.act) v g more header is nine still through;
   opens = opens;
-  begun = b;
+  begun = remembered b;
   last = last;
   shown = (c, shown, inl refl);
-  held = subst (λ w. IsSentOf g b (held_for g (chronicle.held 0 w)) c) (sym header) sent;
+  held = subst (λ w. IsSentOf g (remembered b) (held_for g (chronicle.held 0 w)) c) (sym header) sent;
   next = next;
+  unreplaced = λ e. cc;
 }
 
 -- where nothing was served
-pub item_put : (chronicle : Chronicle) (known : ClientKnown) (v : ℕ) (c : Change) (g : ClientStream) (b : Begun) (more : List Event) → vb_in_header (spelling (dcp_frame (act_message c c.act) 9 v)) ≡ v → known.streams v ≡ Some g → g.opaque ≡ 9 → known.bytes ≡ [] → lets_through (flow_now known).window ≡ true → g.over ≡ false → g.last ≡ Some b → IsIn c b.history → IsSentOf g b (held_for g (chronicle.held 0 v)) c → IsNextItem b (item_of_change c) → LawfulClientItem chronicle known 0 1 (item_of_change c) (frame_of v (act_message c c.act) ∷ more)
+pub item_put : (chronicle : Chronicle) (known : ClientKnown) (v : ℕ) (c : Change) (g : ClientStream) (b : Begun) (more : List Event) → vb_in_header (spelling (dcp_frame (act_message c c.act) 9 v)) ≡ v → known.streams v ≡ Some g → g.opaque ≡ 9 → known.bytes ≡ [] → lets_through (flow_now known).window ≡ true → g.over ≡ false → g.last ≡ Some (remembered b) → IsIn c b.history → IsSentOf g (remembered b) (held_for g (chronicle.held 0 v)) c → IsNextItem (remembered b) (item_of_change c) → LawfulClientItem chronicle known 0 1 (item_of_change c) (frame_of v (act_message c c.act) ∷ more)
 item_put chronicle known v c g b more header is nine silent through opens last shown sent next = item_still chronicle known v c g b more header is nine (ap (λ fs. is_closed_by fs v) (none_served known silent)) through opens last shown sent next
 
 pub own : LawfulPut two (and_another (inside true all_changes two 0 2 []) (inside true all_changes two 0 2 (first_item ∷ []))) (sent 0 one_change)

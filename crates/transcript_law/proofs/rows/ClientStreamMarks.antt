@@ -23,6 +23,7 @@ use Rattle.transcript_law.specs.LawfulClients.{IsNextMarker, IsPut, LawfulClient
 use Rattle.transcript_law.specs.Questions.{flow_now, served_frames}
 use Rattle.transcript_law.specs.StreamLaws.{IsFrontOf, item_of_change}
 use Rattle.transcript_law.specs.Transcripts.{one_change}
+use Rattle.transcript_law.proofs.links.Sources.{from_memory}
 use Rattle.transcript_law.proofs.rows.ClientStreams.{all_between, bytes_are, none_counted, put_by, put_still, spelled_is, stream_is}
 
 -- ---- markers, and the streams that they are of
@@ -33,15 +34,15 @@ header start end = refl
 
 -- a marker of the stream of the vBucket v, which no frame closed, before other lines
 pub mark_still : (chronicle : Chronicle) (known : ClientKnown) (v start end : ℕ) (g : ClientStream) (more : List Event) → vb_in_header (spelling (dcp_frame (msg.SnapshotMarker start end 1) 9 v)) ≡ v → known.streams v ≡ Some g → g.opaque ≡ 9 → is_closed_by (served_frames known) v ≡ false → lets_through (flow_now known).window ≡ true → IsNextMarker chronicle.tree g start end → LawfulClientMark chronicle known 0 1 start end 1 (frame_of v (msg.SnapshotMarker start end 1) ∷ more)
-mark_still chronicle known v start end g more header is nine still through m = record { put = put_still known (msg.SnapshotMarker start end 1) v g more header is nine still through; memory = refl; marker = m }
+mark_still chronicle known v start end g more header is nine still through m = record { put = put_still known (msg.SnapshotMarker start end 1) v g more header is nine still through; source = from_memory end _; marker = m }
 
 -- where nothing was served
 abbrev pub mark_put : (chronicle : Chronicle) (known : ClientKnown) (v start end : ℕ) (g : ClientStream) (more : List Event) → vb_in_header (spelling (dcp_frame (msg.SnapshotMarker start end 1) 9 v)) ≡ v → known.streams v ≡ Some g → g.opaque ≡ 9 → known.bytes ≡ [] → lets_through (flow_now known).window ≡ true → IsNextMarker chronicle.tree g start end → LawfulClientMark chronicle known 0 1 start end 1 (frame_of v (msg.SnapshotMarker start end 1) ∷ more)
-mark_put chronicle known v start end g more header is nine silent through m = record { put = put_by known (msg.SnapshotMarker start end 1) v g more header is nine silent through; memory = refl; marker = m }
+mark_put chronicle known v start end g more header is nine silent through m = record { put = put_by known (msg.SnapshotMarker start end 1) v g more header is nine silent through; source = from_memory end _; marker = m }
 
 -- a marker is lawful that is the next one of the stream of its vBucket
 pub marks : (changes : List Change) (g : ClientStream) (start end : ℕ) → g.opaque ≡ 9 → IsNextMarker (tree_of changes) g start end → LawfulPut changes (one g) (marked 0 start end)
-marks changes g start end nine m = (record { put = put_by (with_streams (one g)) (msg.SnapshotMarker start end 1) 0 g [] (header start end) refl nine refl (none_counted (with_streams (one g)) refl refl); memory = refl; marker = m }, ((λ z. cc), tt))
+marks changes g start end nine m = (record { put = put_by (with_streams (one g)) (msg.SnapshotMarker start end 1) 0 g [] (header start end) refl nine refl (none_counted (with_streams (one g)) refl refl); source = from_memory end _; marker = m }, ((λ z. cc), tt))
 
 -- and one that is lawful is so
 pub is_next : (changes : List Change) (g : ClientStream) (start end : ℕ) → LawfulPut changes (one g) (marked 0 start end) → IsNextMarker (tree_of changes) g start end
@@ -120,9 +121,9 @@ turns l =
     let is : l.1.0.put.stream ≡ with_turn three put_two = stream_is (past_turn 0 three (with_streams (one put_two))) (msg.SnapshotMarker 2 3 1) (msg.SnapshotMarker 2 3 1) 0 (with_turn three put_two) [] (header 2 3) refl l.1.0.put in
     let e : true ≡ false = sym (ap (λ (g : ClientStream). g.turned) is) ∙ l.1.0.marker.stays in cc
 
--- from disk
+-- from disk, where nothing is saved
 pub disk : LawfulPut two (one (fresh true all_changes)) disk_marked → ⊥
-disk l = let e : ◌≡◌ {A = ℕ} 2 1 = l.0.memory in omega (arith, e)
+disk l = let low : 2 ≤ 0 = l.0.source.below refl in omega (arith, low)
 
 -- ---- frames
 

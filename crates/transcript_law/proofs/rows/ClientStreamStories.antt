@@ -69,8 +69,8 @@ changed_one change streams g are v = ap (λ o. if v == 0 then option_map change 
 
 -- behind a marker, two items and the end
 streams_behind : (streams : ℕ → Option ClientStream) → ((v : ℕ) → streams v ≡ one granted v) → (v : ℕ)
-    → change_at 0 (told_of (tree_of two) StreamLine.Ends) (change_at 0 (told_of (tree_of two) (StreamLine.Sends next_item)) (change_at 0 (told_of (tree_of two) (StreamLine.Sends first_item)) (change_at 0 (told_of (tree_of two) (StreamLine.Marks 0 2)) streams))) v ≡ one (finished all_put) v
-streams_behind streams are = changed_one (told_of (tree_of two) StreamLine.Ends) _ all_put (changed_one (told_of (tree_of two) (StreamLine.Sends next_item)) _ first_put (changed_one (told_of (tree_of two) (StreamLine.Sends first_item)) _ begun (changed_one (told_of (tree_of two) (StreamLine.Marks 0 2)) streams granted are)))
+    → change_at 0 (told_of (tree_of two) StreamLine.Ends) (change_at 0 (told_of (tree_of two) (StreamLine.Sends next_item)) (change_at 0 (told_of (tree_of two) (StreamLine.Sends first_item)) (change_at 0 (told_of (tree_of two) (StreamLine.Marks 0 2 1)) streams))) v ≡ one (finished all_put) v
+streams_behind streams are = changed_one (told_of (tree_of two) StreamLine.Ends) _ all_put (changed_one (told_of (tree_of two) (StreamLine.Sends next_item)) _ first_put (changed_one (told_of (tree_of two) (StreamLine.Sends first_item)) _ begun (changed_one (told_of (tree_of two) (StreamLine.Marks 0 2 1)) streams granted are)))
 
 -- its end was put, and nothing is left
 all_over : (g : ClientStream) (b : Bool) → (if b then Some (finished all_put) else None) ≡ Some g → g.over ≡ false → ⊥

@@ -85,13 +85,13 @@ short_again l = ⊎_elim (λ e. cc) (λ x. x) l.1.1.1.1.1.1.0.1.1
 -- a link ends with a node at one of its ends, and no other does
 
 pub next_item : LawfulFrom (begun_and_crashed 2) (next_item_line ∷ [])
-next_item = ((_, begun 1 2 [], (0, refl, refl), refl, refl, ([], record { whole = next_change ∷ []; covers = next_covers; front = refl }, λ e. refl)), tt)
+next_item = ((_, begun 1 2 [], (0, refl, refl), refl, refl, ([], record { whole = next_change ∷ []; covers = next_covers; front = refl }, λ e. refl), λ e. cc), tt)
 
 pub of_producer : LawfulFrom (begun_and_crashed 0) (next_item_line ∷ []) → ⊥
-of_producer l = let (g, b, (v, is, has), opens, last, next) = l.0 in cc
+of_producer l = let (g, b, (v, is, has), opens, last, next, source) = l.0 in cc
 
 pub of_consumer : LawfulFrom (begun_and_crashed 1) (next_item_line ∷ []) → ⊥
-of_consumer l = let (g, b, (v, is, has), opens, last, next) = l.0 in cc
+of_consumer l = let (g, b, (v, is, has), opens, last, next, source) = l.0 in cc
 
 pub closed : LawfulGroups (granted_inside 2) (crash_under_link 0 (verb.AtLink 1 (link_verb.Pump 9))) (crash_under_link_groups (refused cause.LinkClosed))
 closed = whole (granted_inside 2) (crash_under_link 0 (verb.AtLink 1 (link_verb.Pump 9))) (crash_under_link_groups (refused cause.LinkClosed)) refl ((((_, refl), tt), (λ c. refl), refl), ((tt, (refl, inl refl), refl), tt))

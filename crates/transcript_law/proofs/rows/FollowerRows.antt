@@ -27,7 +27,7 @@ use Rattle.vbucket.proofs.{Pending.{pends_fold, pends_nothing}, Prepares.{image_
 pub inside_sound : Sound (empty_in 0 1)
 inside_sound =
     let s = starts 1 Role.Replica 0 in
-    record { spanned = s.spanned; placed = record { capped = omega arith; within = (omega arith, omega arith); own = tt }; stamped = s.stamped; based = s.based; saved = s.saved; counted = s.counted }
+    record { spanned = s.spanned; placed = record { capped = omega arith; within = (omega arith, omega arith); own = tt }; stamped = s.stamped; based = s.based; saved = s.saved; counted = s.counted; feeds = s.feeds }
 
 -- one that went back to what the first change leaves
 pub based_sound : Sound based

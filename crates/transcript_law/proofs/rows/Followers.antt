@@ -21,6 +21,7 @@ use Rattle.script_text.specs.declared.verb.LinkVerb.{LinkVerb}
 use Rattle.script_text.specs.declared.verb.LinkVerb.TheVariants as link_verb
 use Rattle.transcript_law.specs.LinesTold.{LastLine}
 use Rattle.transcript_law.proofs.lines.Rises.{made_here}
+use Rattle.transcript_law.proofs.links.Sources.{from_memory}
 use Rattle.transcript_law.proofs.lines.Takeovers.{front_follows, none_known}
 use Rattle.transcript_law.proofs.rows.Groups.{are_plain}
 use Rattle.transcript_law.proofs.verbs.Handing.{no_rise, plain_all}
@@ -101,7 +102,7 @@ tree = record { id = 5; parent = None; fork = 0; own = changes } ∷ []
 -- the stream after markers and items
 
 abbrev pub begun : ℕ → ℕ → List ItemLine → Begun
-begun from end items = record { history = changes; from = from; end = end; items = items }
+begun from end items = record { history = changes; from = from; end = end; disk = false; items = items }
 
 abbrev pub streamed : Begun → Granted
 streamed b = record { ask = ask_above 0 0; log = log_of 5; place = b.end; last = Some b; over = false; marks = (b.from, b.end) ∷ []; coming = b.items; wrote = [] }
@@ -213,9 +214,9 @@ abbrev before_sent : Chronicle
 before_sent = after_lines before_asked (granted_lines ++ adopted_lines 5)
 
 both_sent : (l : Option LastLine) → LawfulFrom (record before_sent { last = l }) both_sent_lines
-both_sent l = (own_stream, (0, refl, refl), record { opens = refl; starts = refl; behind = tt; reaches = omega arith; whole = (changes, both_cover) }, refl)
-    ▹ (streamed (begun 0 2 []), begun 0 2 [], (0, refl, refl), refl, refl, (next_change ∷ [], record { whole = changes; covers = both_cover; front = refl }, λ e. absurd (omega arith)))
-    ▹ (streamed (begun 0 2 (first_item ∷ [])), begun 0 2 (first_item ∷ []), (0, refl, refl), refl, refl, ([], record { whole = changes; covers = both_cover; front = refl }, λ e. refl)) ▹ tt
+both_sent l = (own_stream, (0, refl, refl), record { opens = refl; starts = refl; behind = tt; reaches = omega arith; whole = (changes, both_cover) }, from_memory _ _)
+    ▹ (streamed (begun 0 2 []), begun 0 2 [], (0, refl, refl), refl, refl, (next_change ∷ [], record { whole = changes; covers = both_cover; front = refl }, λ e. absurd (omega arith)), λ e. cc)
+    ▹ (streamed (begun 0 2 (first_item ∷ [])), begun 0 2 (first_item ∷ []), (0, refl, refl), refl, refl, ([], record { whole = changes; covers = both_cover; front = refl }, λ e. refl), λ e. cc) ▹ tt
 
 pub whole : Lawful two_followed (sent_so both_sent_lines)
 whole = from_asked granted_lines (adopted_lines 5) both_sent_lines [] [] (omega arith) refl (refl, refl, refl, refl, refl) (λ e. cc) (λ e. cc) (refl, refl, refl, refl) (λ e. refl, λ e. refl, λ e. refl, λ e. refl, λ e. refl, refl) ((own_request _, tt), (((1, 0, own_stream, refl, refl, refl), tt), (both_sent ((at_line (behind 10 (sent_so both_sent_lines)) 11).last), (tt, (tt, tt))))) (refl ▹ refl ▹ refl ▹ refl ▹ refl ▹ tt) (λ t. none_due _ refl (no_entries Pend), λ t. cc)
@@ -233,10 +234,10 @@ right = from_asked granted_lines (adopted_lines 5) both_sent_lines both_got (rep
 pub parts : Lawful two_followed (sent_so (marker_line 0 1 ∷ first_item_line ∷ marker_line 1 2 ∷ next_item_line ∷ []))
 parts = from_asked granted_lines (adopted_lines 5) (marker_line 0 1 ∷ first_item_line ∷ marker_line 1 2 ∷ next_item_line ∷ []) [] [] (omega arith) refl (refl, refl, refl, refl, refl) (λ e. cc) (λ e. cc) (refl, refl, refl, refl) (λ e. refl, λ e. refl, λ e. refl, λ e. refl, λ e. refl, refl)
     ((own_request _ ▹ tt) ▹ ((1, 0, own_stream, refl, refl, refl) ▹ tt)
-    ▹ ((own_stream, (0, refl, refl), record { opens = refl; starts = refl; behind = tt; reaches = omega arith; whole = (one_change ∷ [], first_covers) }, refl)
-    ▹ (streamed (begun 0 1 []), begun 0 1 [], (0, refl, refl), refl, refl, ([], record { whole = one_change ∷ []; covers = first_covers; front = refl }, λ e. refl))
-    ▹ (streamed (begun 0 1 (first_item ∷ [])), (0, refl, refl), record { opens = refl; starts = refl; behind = record { whole = one_change ∷ []; covers = first_covers; front = refl }; reaches = omega arith; whole = (next_change ∷ [], next_covers) }, refl)
-    ▹ (_, begun 1 2 [], (0, refl, refl), refl, refl, ([], record { whole = next_change ∷ []; covers = next_covers; front = refl }, λ e. refl)) ▹ tt)
+    ▹ ((own_stream, (0, refl, refl), record { opens = refl; starts = refl; behind = tt; reaches = omega arith; whole = (one_change ∷ [], first_covers) }, from_memory _ _)
+    ▹ (streamed (begun 0 1 []), begun 0 1 [], (0, refl, refl), refl, refl, ([], record { whole = one_change ∷ []; covers = first_covers; front = refl }, λ e. refl), λ e. cc)
+    ▹ (streamed (begun 0 1 (first_item ∷ [])), (0, refl, refl), record { opens = refl; starts = refl; behind = record { whole = one_change ∷ []; covers = first_covers; front = refl }; reaches = omega arith; whole = (next_change ∷ [], next_covers) }, from_memory _ _)
+    ▹ (_, begun 1 2 [], (0, refl, refl), refl, refl, ([], record { whole = next_change ∷ []; covers = next_covers; front = refl }, λ e. refl), λ e. cc) ▹ tt)
     ▹ tt ▹ tt ▹ tt) (refl ▹ refl ▹ refl ▹ refl ▹ refl ▹ tt) (λ t. none_due _ refl (no_entries Pend), λ t. cc)
 
 -- answers to the request that are not lawful
@@ -319,10 +320,10 @@ stream_is r g h dialed told (v, is, has) =
     let same : Some g ≡ Some h = sym told ∙ ap (r.stream_of (Link 1)) at ∙ has in cc
 
 marker_of : (r : Chronicle) (g : Granted) (start end : ℕ) → r.dial_of 1 ≡ Some own_dial → r.stream_of (Link 1) 0 ≡ Some g → LawfulMark r (Link 1) start end 1 → IsMarker r.tree g start end
-marker_of r g start end dialed told (h, stream, m, flags) = subst (λ x. IsMarker r.tree x start end) (sym (stream_is r g h dialed told stream)) m
+marker_of r g start end dialed told (h, stream, m, source) = subst (λ x. IsMarker r.tree x start end) (sym (stream_is r g h dialed told stream)) m
 
 item_of : (r : Chronicle) (b : Begun) (item : ItemLine) → r.dial_of 1 ≡ Some own_dial → r.stream_of (Link 1) 0 ≡ Some (streamed b) → LawfulItem r (Link 1) item → IsNextItem b item
-item_of r b item dialed told (g, c, stream, opens, last, next) =
+item_of r b item dialed told (g, c, stream, opens, last, next, source) =
     let o : Some b ≡ Some c = ap (λ (x : Granted). x.last) (stream_is r (streamed b) g dialed told stream) ∙ last in let e : b ≡ c = cc in
     subst (λ x. IsNextItem x item) (sym e) next
 
@@ -415,7 +416,7 @@ inside_stream se = granted (ask_within 0 1 se 5) (log_of 5)
 
 pub inside : LawfulFrom (granted_inside 2) (marker_line 0 2 ∷ [])
 unfolding inside_stream
-inside = ((inside_stream 2, (0, refl, refl), record { opens = refl; starts = refl; behind = tt; reaches = omega arith; whole = (next_change ∷ [], next_covers) }, refl), tt)
+inside = ((inside_stream 2, (0, refl, refl), record { opens = refl; starts = refl; behind = tt; reaches = omega arith; whole = (next_change ∷ [], next_covers) }, from_memory _ _), tt)
 
 pub later_start : LawfulFrom (granted_inside 2) (marker_line 1 2 ∷ []) → ⊥
 unfolding inside_stream
@@ -428,7 +429,7 @@ short l = let e : ◌≤◌ 3 2 = (marker_of (granted_inside 3) (inside_stream 3
 -- a stream is that of the vBucket that its link dials for
 pub elsewhere : LawfulFrom dialed_elsewhere (marker_line 0 2 ∷ []) → ⊥
 elsewhere l =
-    let (g, (v, is, has), marker, flags) = l.0 in let at : 1 ≡ v = eqb-true 1 v is in
+    let (g, (v, is, has), marker, source) = l.0 in let at : 1 ≡ v = eqb-true 1 v is in
     let none : ◌≡◌ {A = Option Granted} None (Some g) = ap (dialed_elsewhere.stream_of (Link 1)) at ∙ has in cc
 
 -- a vBucket that was put on a branch made from its own, or from another

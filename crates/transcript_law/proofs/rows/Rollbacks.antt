@@ -11,6 +11,7 @@ use Rattle.vbucket.proofs.Committing.{none_rests}
 use Rattle.std.specs.FinMap as finite
 use Rattle.transcript_law.proofs.rows.Transcripts.{no_entries, as_made, as_set, image, shown, docs, pending, lines}
 use Rattle.transcript_law.specs.Contrary.{active_shown, inside_active, inside_newest}
+use Rattle.transcript_law.proofs.links.Sources.{from_memory}
 
 -- rollbacks
 pub back : LawfulFrom sent_back (rolled_lines 1 0)
@@ -51,9 +52,9 @@ inside = granted (ask_within 0 1 2 5) (log_of 5)
 
 pub ends : LawfulFrom (granted_inside 2) (rest_lines ++ stream_end_lines)
 ends = (
-  (_, (0, refl, refl), record { opens = refl; starts = refl; behind = tt; reaches = omega arith; whole = (next_change ∷ [], next_covers) }, refl),
+  (_, (0, refl, refl), record { opens = refl; starts = refl; behind = tt; reaches = omega arith; whole = (next_change ∷ [], next_covers) }, from_memory _ _),
   (
-    (_, _, (0, refl, refl), refl, refl, ([], record { whole = next_change ∷ []; covers = next_covers; front = refl }, λ e. refl)),
+    (_, _, (0, refl, refl), refl, refl, ([], record { whole = next_change ∷ []; covers = next_covers; front = refl }, λ e. refl), λ e. cc),
     ((_, (0, refl, refl), refl, record { whole = next_change ∷ []; covers = next_covers; front = refl }, λ a b. refl), tt),
   ),
 )
@@ -72,14 +73,14 @@ over_told : (g h : Granted) → finished g ≡ h → h.over ≡ false → ⊥
 over_told g h same opens = let e : true ≡ false = ap (λ (x : Granted). x.over) same ∙ opens in cc
 
 pub behind_end : LawfulFrom (granted_inside 2) (stream_end_lines ++ marker_line 0 2 ∷ []) → ⊥
-behind_end l = let (g, stream, marker, flags) = l.1.0 in over_told inside g (stream_is (after_lines (granted_inside 2) stream_end_lines) (finished inside) g refl refl stream) marker.opens
+behind_end l = let (g, stream, marker, source) = l.1.0 in over_told inside g (stream_is (after_lines (granted_inside 2) stream_end_lines) (finished inside) g refl refl stream) marker.opens
 
 pub ends_twice : LawfulFrom (granted_inside 2) (stream_end_lines ++ stream_end_lines) → ⊥
 ends_twice l = let (g, stream, opens, whole, by) = l.1.0 in over_told inside g (stream_is (after_lines (granted_inside 2) stream_end_lines) (finished inside) g refl refl stream) opens
 
 -- a link that ended has no stream, nor has the next one of its number before it is granted one
 pub over_link_marked : LawfulFrom (granted_inside 2) (link_over ++ marker_line 0 2 ∷ []) → ⊥
-over_link_marked l = let (g, (v, is, has), marker, flags) = l.1.0 in let e : false ≡ true = is in cc
+over_link_marked l = let (g, (v, is, has), marker, source) = l.1.0 in let e : false ≡ true = is in cc
 
 pub link_ends : LawfulFrom (granted_inside 2) link_over
 link_ends = ((_, refl), tt)
@@ -88,7 +89,7 @@ pub link_ends_twice : LawfulFrom (granted_inside 2) (link_over ++ link_over) →
 link_ends_twice l = let (dial, is) = l.1.0 in let e : ◌≡◌ {A = Option Dial} None (Some dial) = is in cc
 
 pub marked_anew : LawfulFrom (dialed_anew (granted_inside 2)) (marker_line 0 2 ∷ []) → ⊥
-marked_anew l = let (g, (v, is, has), marker, flags) = l.0 in let e : ◌≡◌ {A = Option Granted} None (Some g) = has in cc
+marked_anew l = let (g, (v, is, has), marker, source) = l.0 in let e : ◌≡◌ {A = Option Granted} None (Some g) = has in cc
 
 -- logs and roles
 pub own_log : LawfulFrom (made_from 5) (log_lines made_log)

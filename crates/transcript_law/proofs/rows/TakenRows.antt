@@ -7,10 +7,10 @@ use Rattle.{std.proofs.lemmas.Bool.{true_from_ne_false}, transcript_law.specs.Co
 use Rattle.transcript_law.specs.RefusalRows.{two_marks}
 use Rattle.vb_events.specs.declared.event.StreamName.TheVariants.{Link}
 
--- a marker that names the disk, and an end that names another reason than the role
+-- a marker that names the disk, where nothing is saved, and an end that names another reason than the role
 
 pub from_disk : LawfulFrom (granted_inside 2) disk_marker → ⊥
-from_disk l = let (g, stream, marker, flags) = l.0 in let e : ◌≡◌ {A = ℕ} 2 1 = flags in omega arith
+from_disk l = let (g, stream, marker, source) = l.0 in let low : 2 ≤ 0 = source.below refl in omega (arith, low)
 
 pub ends_otherwise : LawfulFrom (granted_inside 2) done_lines → ⊥
 ends_otherwise l =

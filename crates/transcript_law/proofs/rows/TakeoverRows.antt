@@ -165,7 +165,7 @@ rises_elsewhere l = ⊎_elim (λ x. let e : ◌≡◌ {A = Option ℕ} None (Som
 -- ---- states
 
 -- the snapshot of both changes was put
-pub both_whole : IsWholeIf (Some (record { history = one_change ∷ next_change ∷ []; from = 0; end = 2; items = item_of_change one_change ∷ item_of_change next_change ∷ [] }))
+pub both_whole : IsWholeIf (Some (record { history = one_change ∷ next_change ∷ []; from = 0; end = 2; disk = false; items = item_of_change one_change ∷ item_of_change next_change ∷ [] }))
 both_whole = record { whole = one_change ∷ next_change ∷ []; covers = all_between (one_change ∷ next_change ∷ []) 0 2 (omega arith) (omega arith, (omega arith, omega arith)) refl; front = refl }
 
 pub pending_now : LawfulState (put_to true) 1 Role.Pending

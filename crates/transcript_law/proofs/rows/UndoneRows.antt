@@ -1,7 +1,7 @@
 -- takes and pumps that leave changes, judged by hand
 use Rattle.std.specs.Prelude.{◌≡◌, ◌≤◌, ◌<◌, ◌∷◌}
 use Rattle.transcript_law.proofs.Words.{ℕ, Bool, true, false, List, [], refl, ap, sym, ◌∙◌, subst, arith, inl, inr, ⊎_elim, Option, Some, None, Begun, Chronicle, Dial, Event, frames_in_lines, Granted, ItemLine, Role, after_lines, both_sent_lines, granted_inside, item_of_change}
-use Rattle.transcript_law.proofs.links.{Idling.{all_put_by}, PumpAnswers.{pumped_right}}
+use Rattle.transcript_law.proofs.links.{Idling.{all_put_by}, PumpAnswers.{pumped_right}, Sources.{from_memory}}
 use Rattle.transcript_law.proofs.rows.Followers.{◌▹◌, begun, both_cover, changes, first_item, next_item, own_dial, own_stream, streamed}
 use Rattle.transcript_law.specs.{Contrary.{after_both_dead}, LineAnswers.{PutsAsTold}, LinesTold.{at_line}, Undone.{AllPut, EndsThere, HasNoMore, IsDue}}
 use Rattle.std.specs.FinMap.{get, get-empty, get-insert}
@@ -51,9 +51,9 @@ put_whole read g dialed is no_more = all_put_by read 1 own_dial (Some g) dialed 
 pub all_put : LawfulPump granted_both (both_sent_lines, answer.Pulled 3 why.Idle)
 all_put = (
   (
-    (own_stream, (0, refl, refl), record { opens = refl; starts = refl; behind = tt; reaches = omega arith; whole = (changes, both_cover) }, refl)
-        ▹ (streamed (begun 0 2 []), begun 0 2 [], (0, refl, refl), refl, refl, (next_change ∷ [], record { whole = changes; covers = both_cover; front = refl }, λ e. absurd (omega arith)))
-        ▹ (streamed (begun 0 2 (first_item ∷ [])), begun 0 2 (first_item ∷ []), (0, refl, refl), refl, refl, ([], record { whole = changes; covers = both_cover; front = refl }, λ e. refl)) ▹ tt,
+    (own_stream, (0, refl, refl), record { opens = refl; starts = refl; behind = tt; reaches = omega arith; whole = (changes, both_cover) }, from_memory _ _)
+        ▹ (streamed (begun 0 2 []), begun 0 2 [], (0, refl, refl), refl, refl, (next_change ∷ [], record { whole = changes; covers = both_cover; front = refl }, λ e. absurd (omega arith)), λ e. cc)
+        ▹ (streamed (begun 0 2 (first_item ∷ [])), begun 0 2 (first_item ∷ []), (0, refl, refl), refl, refl, ([], record { whole = changes; covers = both_cover; front = refl }, λ e. refl), λ e. cc) ▹ tt,
     pumped_right,
     refl,
     refl,
@@ -152,7 +152,7 @@ sent_stream how wrote = record {
   ask = ask_above 0 0;
   log = log_of 5;
   place = 1;
-  last = Some (record { history = prepare_of how ∷ []; from = 0; end = 1; items = item_of_change (prepare_of how) ∷ [] });
+  last = Some (record { history = prepare_of how ∷ []; from = 0; end = 1; disk = false; items = item_of_change (prepare_of how) ∷ [] });
   over = false;
   marks = [];
   coming = [];

@@ -3,7 +3,7 @@ use Rattle.std.specs.Prelude.{◌≡◌, ◌∷◌, ◌==◌}
 use Rattle.transcript_law.proofs.Words.{ℕ, [], sym, subst, map, Option, Some, None, Event, Role, AdminCall, AdminResult, PlainNode, VbAnswer, VbCall, VbReply}
 use Rattle.transcript_law.proofs.Words.{admin_call, admin_replied, admin_result, branch_lines, call_at, called_at, document_line, image_lines, prepare_line}
 use Rattle.transcript_law.proofs.Words.{after_job}
-use Rattle.node_core.specs.{Calls.{own_lines, own_lines_if}, Admin.{admin_at, admin_job, role_at, role_noted}, Flushing.{FlushResult, flush_at, flush_result, settled_by, settled_result}}
+use Rattle.node_core.specs.{Calls.{own_lines, own_lines_if}, Admin.{admin_at, admin_job, role_at, role_noted}, Flushing.{FlushResult, flush_result, settled_by, settled_result}}
 use Rattle.node_world.specs.{Arms.{placed}}
 use Rattle.std.specs.FinMap as finite
 use Rattle.vb_calls.proofs.JobConduct.{after_job_always, always_bind_job}
@@ -19,6 +19,7 @@ use Rattle.transcript_law.proofs.{lines.Calm.{AnyAsk, any_job, either}, verbs.Fi
 use Rattle.transcript_law.proofs.lines.Heard.{AreMute, mute_map, mute_more}
 use Rattle.node_core.specs.Loading.{branch_in, branch_lines_of_reply, start_job, start_result}
 use Rattle.node_world.specs.Power.{start_one}
+use Rattle.node_world.specs.Nodes.{flush_here}
 
 -- ---- operators' calls
 
@@ -71,7 +72,7 @@ flushed_mute n v (flushed.Took ss se at count) = either AreMute (count == 0) [] 
 flushed_mute n v (flushed.Done reply) = own_mute_if n v reply
 flushed_mute n v other = tt
 
-pub flush_mute : (n v : ℕ) (p : FlushPart) (node : PlainNode) → AreMute (after_job (flush_at n v p) node.vbs node.shelves).1.events
+pub flush_mute : (n v : ℕ) (p : FlushPart) (node : PlainNode) → AreMute (after_job (flush_here n v p node) node.vbs node.shelves).1.events
 flush_mute n v p node = flush_steps (λ told. AreMute told.events) (λ came. Unit {0}) n v p node tt (λ came any. flushed_mute n v came) (λ flush. any_job (part_job v p flush))
 
 pub branch_mute : (n v : ℕ) (role : Role) (uuid : ℕ) → AreMute (branch_lines n v role uuid)

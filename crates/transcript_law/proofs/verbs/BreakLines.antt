@@ -9,13 +9,13 @@ use Rattle.durability.specs.Chains.{Members}
 use Rattle.mcbp_frame.specs.{Cutting.{front_fault}, Frames.{faulty_head}, Spelling.{spelling}}
 use Rattle.mcbp_frame.specs.declared.frame.FaultyHead.{FaultyHead}
 use Rattle.mcbp_kv.specs.{Answers.{bare_answer}, Replies.{reply_frame}}
-use Rattle.node_core.specs.{Admin.{admin_job, admin_refused, promote_result, role_at, role_noted, role_result}, Calls.{own_lines_if}, Clients.{Handling, PlainClient, client_ended, client_posted}, Dials.{DialResult, acknowledged_line, dial_due, untold}, Flushing.{FlushResult, flush_at, flush_result, settled_by, settled_result}, Peers.{peer_answered, peer_frames, peer_heard}}
+use Rattle.node_core.specs.{Admin.{admin_job, admin_refused, promote_result, role_at, role_noted, role_result}, Calls.{own_lines_if}, Clients.{Handling, PlainClient, client_ended, client_posted}, Dials.{DialResult, acknowledged_line, dial_due, untold}, Flushing.{FlushResult, flush_result, settled_by, settled_result}, Peers.{peer_answered, peer_frames, peer_heard}}
 use Rattle.dcp_producer.specs.declared.yields.Yielded.{Yielded}
 use Rattle.node_core.specs.{GivingUp.{dead_line, peer_gives_up, resolved_in}, Peers.{PeerResult}}
 use Rattle.node_world.specs.{Arms.{fired_by, placed, under_arm}, Cuts.{closed_at}, Power.{after_broken, after_fire, disk_end, down_lines, is_broken_answer, with_arm, with_broken}, Turns.{posted_at as posted_at_node, posted_in, role_called}, Pumps.{gives_at, with_given, with_gone}, World.{down_in, down_outcome, down_step, pump_outcome, pump_step}, Worlds.{arm_in, node_if, with_node_if}}
 use Rattle.node_world.specs.declared.arm.Fired.{Fired}
 use Rattle.node_world.specs.declared.arm.Fired.TheVariants as fired
-use Rattle.node_world.specs.{Dues.{due_at, due_in, due_of, is_counted}, Links.{dial_of, frame_posted, frame_up, frames_up, untold_peer}, Nodes.{all_posted, awaiting, chain_causes, chain_line, chain_made, done, flush_line, posted_if, posted_to, save_line, tick_line, vb_made, with_clients_ended, with_kept, with_posts}}
+use Rattle.node_world.specs.{Dues.{due_at, due_in, due_of, is_counted}, Links.{dial_of, frame_posted, frame_up, frames_up, untold_peer}, Nodes.{flush_here, all_posted, awaiting, chain_causes, chain_line, chain_made, done, flush_line, posted_if, posted_to, save_line, tick_line, vb_made, with_clients_ended, with_kept, with_posts}}
 use Rattle.node_world.specs.declared.script_node.TheConstants.{MAX_CLIENTS}
 use Rattle.transcript_law.proofs.invariant.{Agreement.{Agrees, ClientAgrees}, Ranged.{IsRanged, NodeRangedIf}}
 use Rattle.transcript_law.proofs.lines.{Answering.{Tells, peer_so}, Broken.{Broke, So, bytes_break, left_asked, none_closes, posted_so}, Calm.{AnyAsk, AnyKind, any_job, asks_any, due_keeps}, DialTold.{down_so}, LinkTold.{pump_so}, SessionLines.{IsFor, IsKept, LeftBy, posted_at}}
@@ -181,7 +181,7 @@ module _ (clients : ClientsKnown) where
 
   flush_break : (n v : ℕ) (p : FlushPart) (node : PlainNode) → Good n node → Break (flush_line n v p node).1.events
   flush_break n v p node good =
-      let y = after_job (flush_at n v p) node.vbs node.shelves in
+      let y = after_job (flush_here n v p node) node.vbs node.shelves in
       told_break n y.1 (with_kept node y.0) good (flush_steps (λ told. NoneCloses told.events) (λ came. Unit {0}) n v p node refl by (λ flush. any_job (part_job v p flush)))
     where
       taken : (line : Event) (k : Bool) → is_closing line ≡ false → NoneCloses (if k then [] else line ∷ [])

@@ -1,8 +1,8 @@
 -- the line `done`: a batch counts as saved, and then what is due is acknowledged
 use Rattle.std.specs.Prelude.{◌≡◌, ◌∷◌, ◌==◌, if◌then◌else◌}
 use Rattle.transcript_law.proofs.Words.{ℕ, Bool, true, false, List, [], refl, sym, subst, Option, Some, None, Event, Chronicle, PlainLink, PlainNode, PlainWorld, Outcome, StaysSound, VbReply, after_job, on_node, own_link}
-use Rattle.node_core.specs.{Calls.{own_lines_if}, Flushing.{flush_at, flush_result}}
-use Rattle.node_world.specs.{Dues.{done_step, due_at, due_in, due_of, is_counted}, Nodes.{all_posted, flush_line, with_kept}}
+use Rattle.node_core.specs.{Calls.{own_lines_if}, Flushing.{flush_result}}
+use Rattle.node_world.specs.{Dues.{done_step, due_at, due_in, due_of, is_counted}, Nodes.{flush_here, all_posted, flush_line, with_kept}}
 use Rattle.transcript_law.proofs.{invariant.Agreement.{Agrees, GoesOn}, lines.ClientLines.{clients_quiet, posts_of_clients}, verbs.DueLines.{due_goes}, verbs.FiredLines.{flush_steps}, verbs.FlushLines.{done_node_goes}, lines.Lines.{AreQuiet, quiet_more}, verbs.NodeLines.{as_told, on_node_by}, invariant.Ranged.{IsRanged, NodeRanged, NodeRangedIf}, verbs.Settling.{Steady, changes_quiet}}
 use Rattle.transcript_law.proofs.lines.Calm.{any_job}
 use Rattle.transcript_law.specs.{Chronicles.{after_done}, LawfulAnswers.{AllDurable}}
@@ -23,7 +23,7 @@ step_quiet n v other = tt
 
 done_quiet : (w : PlainWorld) (n v : ℕ) → IsRanged w → AreQuiet (on_node w n (flush_line n v part.Done)).1.events
 done_quiet w n v ranged = on_node_by (λ x. AreQuiet x.1.events) w n (flush_line n v part.Done) tt (λ node at. tt) (λ node at runs.
-    let y = after_job (flush_at n v part.Done) node.vbs node.shelves in let lines : List Event = (all_posted y.1.resolved (with_kept node y.0)).1 in
+    let y = after_job (flush_here n v part.Done node) node.vbs node.shelves in let lines : List Event = (all_posted y.1.resolved (with_kept node y.0)).1 in
     quiet_more y.1.events lines (flush_steps (λ told. AreQuiet told.events) (λ came. Unit {0}) n v part.Done node tt (λ came any. step_quiet n v came) (λ flush. any_job (part_job v part.Done flush)))
     (let here : NodeRanged n node = subst (NodeRangedIf n) at (ranged n) in clients_quiet lines (posts_of_clients n y.1.resolved (with_kept node y.0) here.own)))
 

@@ -3,8 +3,8 @@ use Rattle.std.specs.Prelude.{◌≡◌, ◌∷◌, ◌++◌, ◌==◌, if◌the
 use Rattle.transcript_law.proofs.Words.{ℕ, Bool, true, false, List, [], refl, sym, subst, option_map, map, Option, Some, None, is_some, Answer, Cause, Event, Role, Chronicle, AdminCall, AdminResult, PlainLink, PlainNode, PlainWorld, Outcome, Told, VbAnswer, VbCall, VbReply, Status, after, with_states}
 use Rattle.transcript_law.proofs.Words.{admin_call, admin_line, admin_replied, admin_result, branch_lines, call_at, call_told, called_at, consumer_node, cut_off, document_line, first_cause, image_lines, link_number, no_node, node_outcome, on_node, own_link, prepare_line}
 use Rattle.transcript_law.proofs.Words.{after_job, link_outcome, at_end, refusal, refused_or, role_outcome, row_at, turned_after, turned_if, with_ended, with_link, with_node_at}
-use Rattle.node_core.specs.{Calls.{own_lines, own_lines_if}, Admin.{admin_at, admin_job, admin_refused, promote_cause, role_at, role_noted}, Dials.{dial_due}, Flushing.{FlushResult, flush_answered, flush_at, flush_if, flush_result, settled_by, settled_result}}
-use Rattle.node_world.specs.{Arms.{placed, under_arm}, Dues.{due_at, due_in, due_of, is_counted}, Links.{dial_of}, Nodes.{all_posted, flush_line, save_line, vb_made, with_kept, with_posts}, Power.{is_broken_answer, with_broken}, Turns.{posted_at, posted_in, role_called}, World.{down_in, down_outcome, down_step}}
+use Rattle.node_core.specs.{Calls.{own_lines, own_lines_if}, Admin.{admin_at, admin_job, admin_refused, promote_cause, role_at, role_noted}, Dials.{dial_due}, Flushing.{FlushResult, flush_answered, flush_at, flush_result, settled_by, settled_result}}
+use Rattle.node_world.specs.{Arms.{placed, under_arm}, Dues.{due_at, due_in, due_of, is_counted}, Links.{dial_of}, Nodes.{flush_here, all_posted, flush_line, save_line, vb_made, with_kept, with_posts}, Power.{is_broken_answer, with_broken}, Turns.{posted_at, posted_in, role_called}, World.{down_in, down_outcome, down_step}}
 use Rattle.std.specs.FinMap as finite
 use Rattle.script_text.specs.declared.verb.Verb.TheVariants as verb
 use Rattle.script_text.specs.declared.verb.LinkVerb.TheVariants as link_verb
@@ -151,17 +151,17 @@ done_taken v Idle = tt
 done_taken v (Out batch) = tt
 
 pub flush_steps : (P : FlushResult → Type 0) (Q : Flushed → Type 0) (n v : ℕ) (p : FlushPart) (node : PlainNode) → P (flush_answered (Answer.No Cause.UnknownVb)) → ((came : Flushed) → Q came → P (flush_result n v came))
-    → ((flush : Flush) → Steps Q (part_job v p flush)) → P (after_job (flush_at n v p) node.vbs node.shelves).1
+    → ((flush : Flush) → Steps Q (part_job v p flush)) → P (after_job (flush_here n v p node) node.vbs node.shelves).1
 unfolding flush_job
-flush_steps P Q n v p node none some steps = after_job_always AnyCall AnyAsk P (flush_at n v p) node.vbs node.shelves (tt, λ reply any. by (is_some reply))
+flush_steps P Q n v p node none some steps = after_job_always AnyCall AnyAsk P (flush_here n v p node) node.vbs node.shelves (by (is_some (node.vbs v)))
   where
-    by : (b : Bool) → AlwaysJob AnyReply AnyCall AnyAsk P (flush_if n v p b)
+    by : (b : Bool) → AlwaysJob AnyReply AnyCall AnyAsk P (flush_at n v p b)
     by true = always_bind_job AnyReply AnyCall AnyAsk Q P (flush_job v p) (λ came. Ended (flush_result n v came)) (tt, steps) some
     by false = none
 
 pub flush_spared : (n v : ℕ) (p : FlushPart) → ((flush : Flush) → Steps Taken (part_job v p flush)) → (node : PlainNode) → AllKept n node → Spared (flush_line n v p node).1
 flush_spared n v p steps node kept =
-    let y = after_job (flush_at n v p) node.vbs node.shelves in
+    let y = after_job (flush_here n v p node) node.vbs node.shelves in
     posts_spared n y.1 (with_kept node y.0) kept (flush_steps (λ told. FiresAsSaid None told.events told.answer) Taken n v p node refl (taken_spared n v) steps)
 
 -- nor does what is acknowledged behind `done`
@@ -200,7 +200,7 @@ settled_fires n v c node kept = let x = call_at node.vbs v c (node.vbs v) in pos
 pub save_calm : (w : PlainWorld) (n v : ℕ) → IsRanged w → Calm (on_node w n (save_line n v)).1.events
 save_calm w n v ranged = on_node_by (λ o. Calm o.1.events) w n (save_line n v) refl (λ node known. refl)
     (λ node known up.
-    let at : PlainNode = placed v node in let y = after_job (flush_at n v part.Save) at.vbs at.shelves in
+    let at : PlainNode = placed v node in let y = after_job (flush_here n v part.Save at) at.vbs at.shelves in
     let here : NodeRanged n node = subst (NodeRangedIf n) known (ranged n) in posts_calm n y.1 (with_kept at y.0) here.own (flush_steps (λ told. Calm told.events) (λ came. Unit {0}) n v part.Save at refl (λ came any. flushed_calm n v came) (λ flush. any_job (part_job v part.Save flush))))
 
 -- ---- vBuckets that are made

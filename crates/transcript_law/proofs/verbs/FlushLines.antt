@@ -6,7 +6,7 @@ use Rattle.transcript_law.proofs.Words.{VbAnswer, VbReply, newest_branch, quiet_
 use Rattle.transcript_law.proofs.{invariant.Agreement.{AgreesAt, AgreesIn, Agrees, DiskIsIf, GoesOn, VbAgrees, all_rise, idle, shelf_of, top, vb_of}, disks.Appending.{Rewritten, row_there, told_disk, unwritten}, disks.Disks.{FlushIs, ShelfIs, parts_of}, disks.Flushed.{flush_came}}
 use Rattle.transcript_law.proofs.{invariant.JobSteps.{ask_on, call_on, put_found, put_over, same_shelf, shelf_found}, links.Marking.{covers_more}, verbs.NodeLines.{admin_by, agrees_same, as_told, node_changed, node_grown, shelves_again, on_node_by, put_same, refused_on, node_of_same_vbs, written_agrees, written_rests}}
 use Rattle.transcript_law.proofs.{invariant.OneLink.{disk_here, disk_there}, invariant.Seats.{seat, seats_apart}, invariant.Tables.{at_here, at_there}, links.Turning.{put_itself}, invariant.Wholes.{IsSpanIn}}
-use Rattle.{branch_model.specs.Journals.{place_of}, cluster_model.specs.Clusters.{Disk, Fits, IsSpot}, node_core.specs.Flushing.{FlushResult, flush_if, flush_result}, node_world.specs.Nodes.{flush_line, with_kept, with_posts, written}}
+use Rattle.{branch_model.specs.Journals.{place_of}, cluster_model.specs.Clusters.{Disk, Fits, IsSpot}, node_core.specs.Flushing.{FlushResult, flush_at, flush_result}, node_world.specs.Nodes.{flush_line, with_kept, with_posts, written}}
 use Rattle.{transcript_law.specs.Chronicles.{DiskKnown, Flushing, after_batch, after_done, known_log, known_batch, with_disk}, transcript_law.specs.Lawfulness.{LawfulBatch}, std.specs.Prelude.{max, nat_le, nat_lt}, std.specs.Str.{bytes_eq}}
 use Rattle.node_core.specs.Calls.{own_lines}
 use Rattle.transcript_law.proofs.answers.{Claims.{ClaimAt, call_claims, changes_claim}, Committed.{AllHowTold, all_claimed, all_told}, Explained.{explained}, Calm.{OfDurable, durable_settled, durable_told}}
@@ -430,7 +430,7 @@ steps_go from w r n v p refused a goes = on_node_by (λ x. GoesOn (from x.1.answ
   where
     by : (node : PlainNode) → w.nodes n ≡ Some node → is_some node.off ≡ false → (o : Option Plain) → node.vbs v ≡ o → GoesOn (from (flush_line n v p node).1.answer) as_told (with_node_at w n (flush_line n v p node).0, (flush_line n v p node).1)
     by node at runs None e = subst (λ y. let x = written node y in GoesOn (from x.1.answer) as_told (with_node_at w n x.0, x.1))
-        (ap (λ o. let y = call_at node.vbs v VbCall.Log o in after_job (flush_if n v p (is_some y.1)) y.0 node.shelves) (sym e)) (
+        (ap (λ (o : Option Plain). after_job (flush_at n v p (is_some o)) node.vbs node.shelves) (sym e)) (
           tt,
           subst (Agrees (with_node_at w n (with_kept node (node.vbs, node.shelves)))) (sym (refused Cause.UnknownVb))
               (agrees_same w (with_node_at w n (with_kept node (node.vbs, node.shelves))) r a (node_of_same_vbs w n node (with_kept node (node.vbs, node.shelves)) at (λ q. refl) (λ q. refl) refl)),

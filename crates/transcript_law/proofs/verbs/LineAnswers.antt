@@ -6,8 +6,8 @@ use Rattle.transcript_law.proofs.Words.{on_node, vb_in, Told, Bool, List, [], ap
 use Rattle.transcript_law.proofs.Words.{None, Option, Some, is_some, Chronicle, empty_chronicle, IsCarriedOut, IsLogged, IsPromotion, IsTurn, EndsWith, ShowsAreShown, TurnsAreTold}
 use Rattle.transcript_law.proofs.Words.{All, All-nil, VbAnswer, VbReply, Status, is_active, own_link, refusal_reply, with_states, Plain, plain_step, States, call_at, VbCall, Answer, Cause, Event, Role, row_at, after_job, lift, with_vb_at, shelf_in}
 use Rattle.disk_journals.specs.Arms.{arm_over, armed_at, under}
-use Rattle.node_core.specs.{Admin.{admin_at, admin_job, noted_answer}, Flushing.{FlushResult, flush_at, flush_if, flush_result, settled_by, settled_result}}
-use Rattle.node_world.specs.{Arms.{fired_by, placed}, Dues.{done_step, due_at, due_in, due_of, is_counted}, Nodes.{all_posted, flush_line, save_line, shelf_or_blank, with_kept, with_posts, written as written_node}, World.{down_in, down_outcome, down_step}, Worlds.{arm_in}}
+use Rattle.node_core.specs.{Admin.{admin_at, admin_job, noted_answer}, Flushing.{FlushResult, flush_at, flush_result, settled_by, settled_result}}
+use Rattle.node_world.specs.{Arms.{fired_by, placed}, Dues.{done_step, due_at, due_in, due_of, is_counted}, Nodes.{flush_here, all_posted, flush_line, save_line, shelf_or_blank, with_kept, with_posts, written as written_node}, World.{down_in, down_outcome, down_step}, Worlds.{arm_in}}
 use Rattle.node_world.specs.Power.{after_fire, with_arm}
 use Rattle.node_world.specs.declared.arm.Fired.{Fired}
 use Rattle.node_world.specs.declared.arm.Fired.TheVariants as fired
@@ -93,7 +93,7 @@ refused_resolves n v other why e = refl
 flush_node : (P : List Event → Answer → Type 0) (n v : ℕ) (p : FlushPart) (node : PlainNode) → Grows P node → P [] (Answer.No Cause.UnknownVb)
     → ((vb : Plain) (o : Option Shelf) → node.vbs v ≡ Some vb → node.shelves v ≡ o
     → (let x = looked node.shelves v o in StepSays n v P (with_vb_at node.vbs v vb) x.0 (after_job (part_job v p x.1) (with_vb_at node.vbs v vb) x.0)))
-    → Writes P node (after_job (flush_at n v p) node.vbs node.shelves)
+    → Writes P node (after_job (flush_here n v p node) node.vbs node.shelves)
 flush_node P n v p node grows refuses says = by (node.vbs v) refl
   where
     unread : (o : Option Shelf) → node.shelves v ≡ o → (looked node.shelves v o).0 ≡ node.shelves
@@ -109,8 +109,8 @@ flush_node P n v p node grows refuses says = by (node.vbs v) refl
           λ why f s. (ap (λ rs. (all_posted rs now).0) (refused_resolves n v y.1 why f) ∙ ap (with_kept node) (kept why f s), (λ i. refused_tells n v y.1 why f i ++ (all_posted (refused_resolves n v y.1 why f i) now).1)),
         )
 
-    by : (o : Option Plain) → node.vbs v ≡ o → Writes P node (after_job (flush_at n v p) node.vbs node.shelves)
-    by None e = subst (Writes P node) (ap (λ o. let y = call_at node.vbs v VbCall.Log o in after_job (flush_if n v p (is_some y.1)) y.0 node.shelves) (sym e)) (refuses, λ why f s. (refl, refl))
+    by : (o : Option Plain) → node.vbs v ≡ o → Writes P node (after_job (flush_here n v p node) node.vbs node.shelves)
+    by None e = subst (Writes P node) (ap (λ (o : Option Plain). after_job (flush_at n v p (is_some o)) node.vbs node.shelves) (sym e)) (refuses, λ why f s. (refl, refl))
     by (Some vb) e =
         let x = looked node.shelves v (node.shelves v) in let says = says vb (node.shelves v) e refl in
         subst (Writes P node) (sym (flush_came n v p node.vbs node.shelves vb (node.shelves v) e refl))
@@ -250,7 +250,7 @@ looks_taken d v f shelves told = by (shelves v) refl
 save_is_taken : (w : PlainWorld) (r : Chronicle) (n v : ℕ) → AllTold w r → IsAppended (r.disk_at n v) (on_node w n (save_line n v)).1.answer
 save_is_taken w r n v told = on_node_by (λ x. IsAppended (r.disk_at n v) x.1.answer) w n (save_line n v) tt (λ node known. tt) (λ node known up. (by node known).0)
   where
-    by : (node : PlainNode) → w.nodes n ≡ Some node → (let k = placed v node in Writes (λ lines said. IsAppended (r.disk_at n v) said) k (after_job (flush_at n v part.Save) k.vbs k.shelves))
+    by : (node : PlainNode) → w.nodes n ≡ Some node → (let k = placed v node in Writes (λ lines said. IsAppended (r.disk_at n v) said) k (after_job (flush_here n v part.Save k) k.vbs k.shelves))
     by node known = flush_node (λ lines said. IsAppended (r.disk_at n v) said) n v part.Save (placed v node) (λ lines rs kept said x. x) tt (λ vb o has is.
         let armed : Shelves = arm_over node.shelves v node.arm.fuse in let x = looked armed v o in let st : States = with_vb_at node.vbs v vb in
         let taken = looks_taken (r.disk_at n v) v node.arm.fuse node.shelves (λ shelf e. (told.1 n v vb shelf (ap (λ k. vb_in k v) known ∙ has) (ap (λ k. shelf_in k v) known ∙ e)).0) in

@@ -1,10 +1,10 @@
 -- the line `save`: a batch that was taken is appended, under its node's arm
 use Rattle.std.specs.Prelude.{◌≡◌, if◌then◌else◌}
-use Rattle.transcript_law.proofs.Words.{ℕ, false, [], refl, ap, sym, ◌∙◌, subst, Option, Some, None, option_map, eq-eqb, is_some, Answer, Cause, Chronicle, Ended, Plain, PlainNode, PlainWorld, States, VbCall, after_job, call_at, on_node, refusal, StaysSound, shelf_in, vb_in, with_branches, with_node_at, with_vb_at}
+use Rattle.transcript_law.proofs.Words.{ℕ, false, [], refl, ap, sym, ◌∙◌, subst, Option, Some, None, option_map, eq-eqb, is_some, Answer, Cause, Chronicle, Ended, Plain, PlainNode, PlainWorld, States, after_job, on_node, refusal, StaysSound, shelf_in, vb_in, with_branches, with_node_at, with_vb_at}
 use Rattle.transcript_law.proofs.{invariant.Agreement.{Agrees, DiskIsIf, LineGoes, shelf_of, vb_of}, disks.Appending.{batch_came, flush_after, noted_node}, disks.ArmedLines.{ArmedCame}, verbs.FlushLines.{There, shelf_is, there_at_vb, vb_is}, disks.Flushed.{flush_came}}
 use Rattle.transcript_law.proofs.{invariant.JobSteps.{ask_on, same_shelf, shelf_found, shelf_over}, verbs.NodeLines.{on_node_by, put_same}, disks.Firing.{save_noting}, disks.Noting.{LineCame, came_goes, came_used, kept_came, refused_came}, invariant.Seats.{seat}, invariant.Tables.{none_there}}
-use Rattle.{disk_journals.specs.Arms.{armed_at, under}, node_core.specs.Admin.{noted_answer}, node_core.specs.Flushing.{flush_at, flush_if, flush_result}, node_world.specs.declared.told.Told.{Told}}
-use Rattle.node_world.specs.{Arms.{fired_by, fuse_or, lifted, placed}, Nodes.{save_line, with_kept, with_posts, written}, Power.{with_arm}, Worlds.{arm_in}}
+use Rattle.{disk_journals.specs.Arms.{armed_at, under}, node_core.specs.Admin.{noted_answer}, node_core.specs.Flushing.{flush_at, flush_result}, node_world.specs.declared.told.Told.{Told}}
+use Rattle.node_world.specs.{Arms.{fired_by, fuse_or, lifted, placed}, Nodes.{flush_here, save_line, with_kept, with_posts, written}, Power.{with_arm}, Worlds.{arm_in}}
 use Rattle.transcript_law.specs.Chronicles.{after_append, saving}
 use Rattle.vb_calls.specs.Flushes.{appended_job, save_job, wrote_of}
 use Rattle.vb_calls.specs.Shelves.{Append, DiskFailed, Fate, Flush, Idle, Keep, Out, Shelf, Shelves, Stood, WasClosed, Written, shelf_step, with_shelf_at}
@@ -70,7 +70,7 @@ module _ (w : PlainWorld) (r : Chronicle) (n v : ℕ) (there : There w r n v) wh
 
   line_is : save_line n v node ≡ outcome (after_job (save_job v shelf.flush) st0 sh0)
   line_is =
-      ap (λ (x : PlainNode). let y = written x (after_job (flush_at n v part.Save) x.vbs x.shelves) in (lifted v y.0, y.1)) placed_is
+      ap (λ (x : PlainNode). let y = written x (after_job (flush_here n v part.Save x) x.vbs x.shelves) in (lifted v y.0, y.1)) placed_is
       ∙ ap (λ y. let x = written over y in (lifted v x.0, x.1)) (flush_came n v part.Save node.vbs over.shelves vb (Some armed) known (shelf_found node.shelves v armed))
 
   same_vbs : st0 ≡ node.vbs
@@ -155,7 +155,7 @@ save_came w r n v a = on_node_by (LineCame n (saves n v) w r) w n (save_line n v
     by node at runs None e =
         let over : PlainNode = placed v node in
         subst (λ (x : PlainNode × Told). LineCame n (saves n v) w r (with_node_at w n x.0, x.1))
-        (sym (ap (λ o. let y = call_at over.vbs v VbCall.Log o in let z = written over (after_job (flush_if n v part.Save (is_some y.1)) y.0 over.shelves) in (lifted v z.0, z.1)) e
+        (sym (ap (λ (o : Option Plain). let z = written over (after_job (flush_at n v part.Save (is_some o)) over.vbs over.shelves) in (lifted v z.0, z.1)) e
         ∙ ap (λ x. (x, refusal Cause.UnknownVb)) (over_and_off node v (node.shelves v) refl (unarmed_blank n v node a at e))))
         (kept_came n (saves n v) w r node Cause.UnknownVb at refl a)
 

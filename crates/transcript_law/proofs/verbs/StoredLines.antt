@@ -5,8 +5,8 @@ use Rattle.transcript_law.proofs.Words.{ℕ, Bool, true, false, List, [], refl, 
 use Rattle.transcript_law.proofs.Words.{admin_call, admin_result, call_at, called_at, cut_off, done, first_cause, moved_len, no_node, node_outcome, link_number, on_link, on_node, own_link, peer_of, producer_node, pump_at, refusal, row_at, refused_or, role_outcome, turned_after, turned_if, up_at, verb_step, with_ended, with_node_at}
 use Rattle.disk_journals.specs.{Arms.{opens_all}, Books.{Book}}
 use Rattle.{durability.specs.Chains.{Links, Members}, vb_calls.specs.States.{states_step}}
-use Rattle.node_core.specs.{Admin.{admin_refused, promote_result, role_at, role_noted, role_result}, Calls.{own_lines_if}, Dials.{DialResult, acknowledged_line, dial_due, untold}, Flushing.{FlushResult, flush_at, flush_if, flush_result, settled_by, settled_result}, GivingUp.{dead_line, peer_gives_up, resolved_in}, Loading.{are_short, branch_in, branch_lines_of_reply, start_job, start_result, starts_of}, Peers.{PeerResult, PlainPeer, peer_answered, peer_frames, peer_heard}}
-use Rattle.node_world.specs.{Arms.{fired_by, no_arm, placed, under_arm}, Dues.{due_at, due_in, due_of, is_counted}, Links.{dial_of, frame_posted, frame_up, frames_up, untold_peer}, Nodes.{all_posted, bytes_at, chain_causes, chain_line, chain_made, flush_line, tick_line, with_kept, with_posts}}
+use Rattle.node_core.specs.{Admin.{admin_refused, promote_result, role_at, role_noted, role_result}, Calls.{own_lines_if}, Dials.{DialResult, acknowledged_line, dial_due, untold}, Flushing.{FlushResult, flush_at, flush_result, settled_by, settled_result}, GivingUp.{dead_line, peer_gives_up, resolved_in}, Loading.{are_short, branch_in, branch_lines_of_reply, start_job, start_result, starts_of}, Peers.{PeerResult, PlainPeer, peer_answered, peer_frames, peer_heard}}
+use Rattle.node_world.specs.{Arms.{fired_by, no_arm, placed, under_arm}, Dues.{due_at, due_in, due_of, is_counted}, Links.{dial_of, frame_posted, frame_up, frames_up, untold_peer}, Nodes.{flush_here, all_posted, bytes_at, chain_causes, chain_line, chain_made, flush_line, tick_line, with_kept, with_posts}}
 use Rattle.node_world.specs.{Power.{Starting, after_fire, burnt_arm, down_lines, first_no, loaded_node, not_opened, opened_at, opening_told, start_at, start_causes, start_if, start_one, start_step, started_by, starts_from, with_arm}, Pumps.{gives_at, with_given, with_gone}, Turns.{posted_at, posted_in, promote_causes, role_called, turn_causes}, World.{pump_outcome, pump_step}, Worlds.{arm_in, on_made}}
 use Rattle.dcp_producer.specs.declared.yields.Yielded.{Yielded}
 use Rattle.vb_types.specs.declared.change.Act.{Act}
@@ -127,15 +127,15 @@ done_steps v (Written seq) = (tt, λ kept. (tt, λ reply may. done_gives seq rep
 flush_next : (n v : ℕ) (node : PlainNode) → AllToldNext (flush_line n v part.Done node).1.events
 unfolding flush_job
 flush_next n v node =
-    let y = after_job (flush_at n v part.Done) node.vbs node.shelves in
-    posted_next y.1 (with_kept node y.0) (it_comes (λ (told : FlushResult). AllToldNext told.events) (flush_at n v part.Done) node.vbs node.shelves (tt, λ reply may. by (is_some reply)))
+    let y = after_job (flush_here n v part.Done node) node.vbs node.shelves in
+    posted_next y.1 (with_kept node y.0) (it_comes (λ (told : FlushResult). AllToldNext told.events) (flush_here n v part.Done node) node.vbs node.shelves (by (is_some (node.vbs v))))
   where
     came : (x : Flushed) → DoneSo x → AllToldNext (flush_result n v x).events
     came (flushed.Done reply) d = own_next n v reply d
     came flushed.NothingTaken d = tt
     came other d = absurd d
 
-    by : (b : Bool) → Comes (λ (told : FlushResult). AllToldNext told.events) (flush_if n v part.Done b)
+    by : (b : Bool) → Comes (λ (told : FlushResult). AllToldNext told.events) (flush_at n v part.Done b)
     by true = always_bind_job Gives AnyCall AnyRequest DoneSo (λ (told : FlushResult). AllToldNext told.events) (flush_job v part.Done) (λ x. Ended (flush_result n v x)) (tt, done_steps v) came
     by false = tt
 

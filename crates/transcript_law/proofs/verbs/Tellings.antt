@@ -2,8 +2,8 @@
 use Rattle.std.specs.Prelude.{◌≡◌, ◌∷◌, ◌++◌, ◌==◌, ◌&&◌, ◌||◌, ◌⊎◌, if◌then◌else◌}
 use Rattle.std.specs.List.{All}
 use Rattle.transcript_law.proofs.Words.{ℕ, Bool, true, false, List, [], refl, sym, subst, inl, inr, map, flat_map, Option, Some, None, is_some, eq-eqb, and_parts, All-head, All-tail, Answer, Cause, Event, EndReason, PlainNode, PlainWorld, Told, VbAnswer, VbCall, VbReply, after_job, with_states, row_at, link_number, call_at, on_node, refused_or}
-use Rattle.node_core.specs.{Calls.{own_lines_if}, Flushing.{FlushResult, flush_answered, flush_at, flush_if, flush_result, settled_by, settled_result}}
-use Rattle.node_world.specs.{Nodes.{all_posted, with_posts}, Power.{all_numbers, closed_line, closed_lines, down_lines, end_line, end_lines, has_client, is_this_number, is_touched}}
+use Rattle.node_core.specs.{Calls.{own_lines_if}, Flushing.{FlushResult, flush_answered, flush_at, flush_result, settled_by, settled_result}}
+use Rattle.node_world.specs.{Nodes.{flush_here, all_posted, with_posts}, Power.{all_numbers, closed_line, closed_lines, down_lines, end_line, end_lines, has_client, is_this_number, is_touched}}
 use Rattle.transcript_law.proofs.{invariant.OwnClients.{posts_own}, invariant.Ranged.{IsRanged, NodeRanged, NodeRangedIf}, lines.Calm.{AnyAsk}, lines.ClientLines.{AllKept}, verbs.NodeLines.{on_node_by}}
 use Rattle.transcript_law.specs.{Plainness.{IsOfClient}, Tellings.{are_all, are_told}}
 use Rattle.vb_calls.proofs.JobConduct.{after_job_always, always_bind_job}
@@ -149,11 +149,11 @@ abbrev Steps : (Flushed → Type 0) → Job Flushed → Type 0
 Steps P job = AlwaysJob AnyReply AnyCall AnyAsk P job
 
 pub flush_steps : (P : FlushResult → Type 0) (Q : Flushed → Type 0) (n v : ℕ) (p : FlushPart) (node : PlainNode) → P (flush_answered (Answer.No Cause.UnknownVb)) → ((came : Flushed) → Q came → P (flush_result n v came))
-    → ((flush : Flush) → Steps Q (part_job v p flush)) → P (after_job (flush_at n v p) node.vbs node.shelves).1
+    → ((flush : Flush) → Steps Q (part_job v p flush)) → P (after_job (flush_here n v p node) node.vbs node.shelves).1
 unfolding flush_job
-flush_steps P Q n v p node none some steps = after_job_always AnyCall AnyAsk P (flush_at n v p) node.vbs node.shelves (tt, λ reply any. by (is_some reply))
+flush_steps P Q n v p node none some steps = after_job_always AnyCall AnyAsk P (flush_here n v p node) node.vbs node.shelves (by (is_some (node.vbs v)))
   where
-    by : (b : Bool) → AlwaysJob AnyReply AnyCall AnyAsk P (flush_if n v p b)
+    by : (b : Bool) → AlwaysJob AnyReply AnyCall AnyAsk P (flush_at n v p b)
     by true = always_bind_job AnyReply AnyCall AnyAsk Q P (flush_job v p) (λ came. Ended (flush_result n v came)) (tt, steps) some
     by false = none
 

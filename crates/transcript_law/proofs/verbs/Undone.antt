@@ -1,12 +1,12 @@
 -- no line leaves undone what it is for: a `take` takes no change only where each was taken, behind a `down` all was acknowledged that is due, and a `pump` is idle only where all was put
 use Rattle.std.specs.Prelude.{◌≡◌, ◌<◌, ◌≤◌, ◌∷◌}
 use Rattle.transcript_law.proofs.Words.{ℕ, Bool, true, false, List, [], length, refl, ap, sym, ◌∙◌, subst, arith, nat_tests, Option, Some, None, cond, is_some, Answer, Cause, Chronicle, ClientVerb, Event, LinkVerb, Plain, PlainNode, PlainWorld, Span, States, Verb, VbCall, VbVerb, Why}
-use Rattle.transcript_law.proofs.Words.{after_job, after_lines, call_at, list_any, on_node, rises_in, take_snapshots, verb_step, with_vb_at, IsIn, stays, wholes}
+use Rattle.transcript_law.proofs.Words.{after_job, after_lines, list_any, on_node, rises_in, take_snapshots, verb_step, with_vb_at, IsIn, stays, wholes}
 use Rattle.transcript_law.proofs.{disks.Flushed.{flush_came}, invariant.Agreement.{Agrees, VbAgrees, all_rise}, invariant.JobSteps.{call_on, put_found}, invariant.Ranged.{IsRanged, NodeRanged, NodeRangedIf}, invariant.Seats.{seat}}
 use Rattle.transcript_law.proofs.{verbs.FlushLines.{There, disk, mine, some, there_at_vb}, verbs.NodeLines.{on_node_by}, verbs.DownLine.{down_leaves}, verbs.Pumping.{pump_leaves}, verbs.Settling.{steady}, noted.{Joint.{Handed, noted_of}, Pumped.{pump_known}}}
 use Rattle.transcript_law.specs.{LawfulAnswers.{IsStill}, TakeoverAnswers.{StateAwaited}}
 use Rattle.transcript_law.specs.Undone.{AllTaken, IsShutFor, LeavesNone, NoneToAcknowledge, NoneToPut, NoneToTake, WaitsForOne, is_taking}
-use Rattle.{node_core.specs.Flushing.{flush_if, flush_result}, node_world.specs.Nodes.{flush_line}, std.specs.List.{find}, std.specs.Prelude.{nat_lt}}
+use Rattle.{node_core.specs.Flushing.{flush_at, flush_result}, node_world.specs.Nodes.{flush_line}, std.specs.List.{find}, std.specs.Prelude.{nat_lt}}
 use Rattle.vb_calls.specs.{Flushes.{batch_of_reply, take_job, taken_job, took}, Flushing.{batch_of, flush_from, unflushed_span}, Jobs.{Ended}, Shelves.{Flush, Idle, Out, Written, Shelves, with_shelf_at}, Spans.{all_spans}}
 use Rattle.vb_types.specs.declared.journal.FlushPart.TheVariants as part
 use Rattle.transcript_law.proofs.indexers.Pulled.{pull_leaves, pull_shuts, pull_waits}
@@ -63,7 +63,7 @@ take_leaves w r n v ranged a = on_node_by (λ x. x.1.answer ≡ Answer.Number 0 
   where
     by : (node : PlainNode) → w.nodes n ≡ Some node → is_some node.off ≡ false → (o : Option Plain) → node.vbs v ≡ o → (flush_line n v part.Take node).1.answer ≡ Answer.Number 0 → AllTaken r n v
     by node at runs None e z =
-        let none : (flush_line n v part.Take node).1.answer ≡ Answer.No Cause.UnknownVb = ap (λ o. let y = call_at node.vbs v VbCall.Log o in (after_job (flush_if n v part.Take (is_some y.1)) y.0 node.shelves).1.answer) e in cc
+        let none : (flush_line n v part.Take node).1.answer ≡ Answer.No Cause.UnknownVb = ap (λ (o : Option Plain). (after_job (flush_at n v part.Take (is_some o)) node.vbs node.shelves).1.answer) e in cc
     by node at runs (Some vb) e z =
         let t : There w r n v = there_at_vb w r n v a node at runs vb e in
         came_none w r n v t (subst (NodeRangedIf n) t.at (ranged n)) t.shelf.flush refl (sym (ap (λ y. y.1.answer) (flush_came n v part.Take node.vbs node.shelves vb (Some t.shelf) e t.kept)) ∙ z)

@@ -4,8 +4,8 @@ use Rattle.std.specs.FinMap as finite
 use Rattle.transcript_law.proofs.Words.{ℕ, Bool, true, false, List, [], refl, subst, map, eq-eqb, Option, Some, None, is_some, Cause, Chronicle, Event, EndReason, Role, VbVerb, AdminCall, AdminResult, Picture, PlainLink, PlainNode, PlainWorld, Outcome, StreamName, Told, VbAnswer, VbCall, VbReply, after, after_job}
 use Rattle.transcript_law.proofs.Words.{admin_call, admin_line, admin_result, branch_lines, call_at, called_at, cut_off, document_line, first_cause, image_lines, link_number, no_node, node_outcome, on_node, own_link, prepare_line, refused_or, role_outcome, turned_after, turned_if, with_ended, with_node_at}
 use Rattle.durability.specs.Chains.{Members}
-use Rattle.node_core.specs.{Calls.{own_lines}, Admin.{admin_refused, promote_result, role_at, role_noted, role_result}, Dials.{dial_due}, Flushing.{flush_at, flush_result}, Shown.{shown_line}}
-use Rattle.node_world.specs.{Arms.{placed, under_arm}, Dues.{done_step, due_at, due_in, due_of, is_counted}, Links.{consumer_node, dial_of}, Nodes.{all_posted, chain_causes, chain_line, chain_made, flush_line, save_line, tick_line, vb_made, with_kept}, Power.{with_arm}, Turns.{posted_at, posted_in, role_called}}
+use Rattle.node_core.specs.{Calls.{own_lines}, Admin.{admin_refused, promote_result, role_at, role_noted, role_result}, Dials.{dial_due}, Flushing.{flush_result}, Shown.{shown_line}}
+use Rattle.node_world.specs.{Arms.{placed, under_arm}, Dues.{done_step, due_at, due_in, due_of, is_counted}, Links.{consumer_node, dial_of}, Nodes.{flush_here, all_posted, chain_causes, chain_line, chain_made, flush_line, save_line, tick_line, vb_made, with_kept}, Power.{with_arm}, Turns.{posted_at, posted_in, role_called}}
 use Rattle.transcript_law.proofs.{invariant.{Agreement.{IsLink}, Ranged.{IsRanged, NodeRanged, NodeRangedIf, called_world, cut_ended_ranged}}, lines.{Calm.{AnyAsk, any_job, either}, ClientLines.{AllKept}, DialTold.{due_so}}}
 use Rattle.transcript_law.proofs.verbs.{Leaving.{own_found}, NodeLines.{on_node_by}, StopTellings.{AreDialed, own_dialed, refused_dialed, role_dialed, tell_armed}}
 use Rattle.transcript_law.proofs.verbs.Tellings.{Alone, Are, EndsSo, SavesSo, TakesSo, Tell, are_cons, are_map, are_more, are_own, are_posted, are_posts, changes, done_steps, flush_steps, front_of, same_place, save_steps, settles, take_steps, tell_all, tell_unless, unposted}
@@ -220,7 +220,7 @@ module _ (r : Chronicle) (w : PlainWorld) (n v : ℕ) where
 
   pub take_tells : (node : PlainNode) → Tells VbVerb.Take (flush_line n v part.Take node).1.events
   take_tells node =
-      let q = at_vb r n v VbVerb.Take in let y = after_job (flush_at n v part.Take) node.vbs node.shelves in
+      let q = at_vb r n v VbVerb.Take in let y = after_job (flush_here n v part.Take node) node.vbs node.shelves in
       let a : Alone q y.1 = flush_steps (Alone q) TakesSo n v part.Take node (refl, refl) by (take_steps v) in tell_all q (is_of_end r) (λ m e. cc) _ (unposted q y.1 (with_kept node y.0) a.0 a.1)
     where
       by : (came : Flushed) → TakesSo came → Alone (at_vb r n v VbVerb.Take) (flush_result n v came)
@@ -230,7 +230,7 @@ module _ (r : Chronicle) (w : PlainWorld) (n v : ℕ) where
 
   save_so : (node : PlainNode) → Are is_none (save_line n v node).1.events
   save_so node =
-      let at : PlainNode = placed v node in let y = after_job (flush_at n v part.Save) at.vbs at.shelves in
+      let at : PlainNode = placed v node in let y = after_job (flush_here n v part.Save at) at.vbs at.shelves in
       let a : Alone is_none y.1 = flush_steps (Alone is_none) SavesSo n v part.Save at (refl, refl) by (save_steps v) in unposted is_none y.1 (with_kept at y.0) a.0 a.1
     where
       by : (came : Flushed) → SavesSo came → Alone is_none (flush_result n v came)
@@ -252,7 +252,7 @@ module _ (r : Chronicle) (w : PlainWorld) (n v : ℕ) where
 
   done_so : (node : PlainNode) → NodeRanged n node → Are ends (flush_line n v part.Done node).1.events
   done_so node ranged =
-      let y = after_job (flush_at n v part.Done) node.vbs node.shelves in
+      let y = after_job (flush_here n v part.Done node) node.vbs node.shelves in
       are_posted ends n done_clients y.1 (with_kept node y.0) ranged.own (flush_steps (λ told. Are ends told.events) EndsSo n v part.Done node refl by (done_steps v))
     where
       by : (came : Flushed) → EndsSo came → Are ends (flush_result n v came).events
