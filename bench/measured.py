@@ -18,7 +18,8 @@ import os, sys, time
 begun = time.perf_counter()
 child = os.posix_spawn(sys.argv[1], sys.argv[1:], os.environ)
 _, status, usage = os.wait4(child, 0)
-print(time.perf_counter() - begun, usage.ru_maxrss, os.waitstatus_to_exitcode(status), file=sys.stderr)
+seconds = time.perf_counter() - begun
+print(usage.ru_utime + usage.ru_stime, seconds, usage.ru_maxrss, os.waitstatus_to_exitcode(status), file=sys.stderr)
 """
 
 
@@ -45,16 +46,21 @@ def get_frame(key: bytes, opaque: int) -> str:
 
 def run(program: str, path: str, words: Iterable[str] = ("run",)) -> tuple[float, int, str]:
     """The seconds, the peak of memory in KiB, and the transcript."""
+    return run_counted(program, path, words)[1:]
+
+
+def run_counted(program: str, path: str, words: Iterable[str] = ("run",)) -> tuple[float, float, int, str]:
+    """The seconds of a processor, those that passed, the peak of memory in KiB, and the transcript."""
     launch = [sys.executable, "-I", "-S", "-c", LAUNCHER, program, *words]
     with open(path, "rb") as source, tempfile.TemporaryFile() as sink:
         told = subprocess.run(launch, stdin=source, stdout=sink, stderr=subprocess.PIPE, text=True)
         if told.returncode != 0:
             sys.exit(told.stderr)
-        seconds, peak, status = told.stderr.split()[-3:]
+        taken, seconds, peak, status = told.stderr.split()[-4:]
         if status != "0":
             sys.exit(f"{program} ended with {status}")
         sink.seek(0)
-        return float(seconds), int(peak), sink.read().decode()
+        return float(taken), float(seconds), int(peak), sink.read().decode()
 
 
 def table(

@@ -23,8 +23,8 @@ LINE, CELL = 100, 200
 LENGTHS = {
     "README.md": 150,
     "CHANGELOG.md": 165,
-    "docs/ARCHITECTURE.md": 353,
-    "docs/GUARANTEES.md": 430,
+    "docs/ARCHITECTURE.md": 358,
+    "docs/GUARANTEES.md": 434,
     "docs/KV_ENGINE.md": 100,
     "docs/PROOFS.md": 520,
     "docs/TWINS.md": 325,

@@ -115,7 +115,7 @@ def program() -> str:
 def below(crate: str) -> set[str]:
     """A crate and all of the repository's that it stands on."""
     lines = content("crates.txt").decode().split("\n")
-    stands_on = {line.split(":")[0]: line.split(":")[1].split() for line in lines if ":" in line}
+    stands_on = {line.split()[0].strip(":"): line.split(":")[1].split() for line in lines if ":" in line}
     found, more = set(), {crate}
     while more:
         found |= more

@@ -7,7 +7,8 @@ use Rattle.dcp_io.proofs.Counted.{raised_monotone}
 use Rattle.dcp_io.specs.declared.input.TheConstants.{MAX_INPUT}
 use Rattle.dcp_io.specs.declared.status.Status.{Status}
 use Rattle.dcp_io.specs.declared.status.Status.TheVariants as status
-use Rattle.dcp_main.specs.Exits.{TellsMade, TellsRun, TellsUsage, WritesFront}
+use Rattle.storm.specs.Told.{StormTold}
+use Rattle.dcp_main.specs.Exits.{TellsMade, TellsRun, TellsStorm, TellsUsage, WritesFront}
 use Rattle.dcp_main.specs.Runs.{Ran, Complete, Broken, GenRan, UsageTold}
 
 -- where the script was not read, nothing was written
@@ -57,8 +58,14 @@ tells_made seed count old new before after status.WriteFault ran = inr (inl (ref
 tells_made seed count old new before after status.NoMemory ran = inr (inr (refl, ran.0, ran.1.0, ran.1.1))
 tells_made seed count old new before after other ran = absurd ran.1
 
-pub tells_usage : (old new : Intake) (before after : Outlet) (answer : Status) → UsageTold old new before after answer → TellsUsage (exit_code answer) old new before after
-tells_usage old new before after status.Usage told = inl (refl, told.0, told.1.0, told.1.1)
-tells_usage old new before after status.WriteFault told = inr (inl (refl, told.0, told.1.0, told.1.1))
-tells_usage old new before after status.NoMemory told = inr (inr (refl, told.0, told.1.0, told.1.1))
-tells_usage old new before after other told = absurd told
+pub tells_storm : (seed clients writes : ℕ) (before after : Outlet) (answer : Status) → StormTold seed clients writes before after answer → TellsStorm (exit_code answer) seed clients writes before after
+tells_storm seed clients writes before after status.Ok told = inl (refl, told.0, told.1)
+tells_storm seed clients writes before after status.WriteFault told = inr (inl (refl, told.0, told.1))
+tells_storm seed clients writes before after status.NoMemory told = inr (inr (refl, told.0, told.1))
+tells_storm seed clients writes before after other told = absurd told
+
+pub tells_usage : (before after : Outlet) (answer : Status) → UsageTold before after answer → TellsUsage (exit_code answer) before after
+tells_usage before after status.Usage told = inl (refl, told.0, told.1)
+tells_usage before after status.WriteFault told = inr (inl (refl, told.0, told.1))
+tells_usage before after status.NoMemory told = inr (inr (refl, told.0, told.1))
+tells_usage before after other told = absurd told

@@ -7,6 +7,7 @@ pub mod Made
 pub mod Completed
 pub mod Newlines
 pub mod Showing
+pub mod StormLetters
 pub mod TellLines
 pub mod Wanting
 pub mod EventKinds

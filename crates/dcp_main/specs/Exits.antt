@@ -5,6 +5,7 @@ use Rattle.dcp_io.specs.Counts.{Rose}
 use Rattle.dcp_io.specs.Moves.{Intake, Outlet, WrotePart}
 use Rattle.node_world.specs.World.{groups}
 use Rattle.script_gen.specs.Scripts.{gen_script}
+use Rattle.storm_model.specs.Texts.{storm_text}
 use Rattle.script_text.specs.Scripts.{FirstBad, IsScript}
 use Rattle.script_text.specs.Transcript.{print_of}
 use Rattle.script_text.specs.declared.verb.ScriptLine.{ScriptLine}
@@ -39,10 +40,18 @@ TellsMade number seed count old new before after =
     ⊎ (((number ≡ 5) × (new ≡ old) × WrotePart before.held after.held (summary_text (gen_script seed count)) × Rose before.faults after.faults)
     ⊎ ((number ≡ 6) × (new ≡ old) × WrotePart before.held after.held (summary_text (gen_script seed count)) × (after.faults ≡ before.faults)))
 
+-- What the number tells of a storm that was run: 0 that exactly its lines were written; 5 that the output failed, and 6 that memory was
+-- short, after a front part of them.
+abbrev pub TellsStorm : ℕ → ℕ → ℕ → ℕ → Outlet → Outlet → Type 0
+TellsStorm number seed clients writes before after =
+    ((number ≡ 0) × Appends before.held after.held (storm_text seed clients writes) × (after.faults ≡ before.faults))
+    ⊎ (((number ≡ 5) × WrotePart before.held after.held (storm_text seed clients writes) × Rose before.faults after.faults)
+    ⊎ ((number ≡ 6) × WrotePart before.held after.held (storm_text seed clients writes) × (after.faults ≡ before.faults)))
+
 -- What the number tells of words that the program has not: 2 that the usage line was written; 5 that the output failed, and 6 that
--- memory was short, after a front part of the line. Nothing was read.
-abbrev pub TellsUsage : ℕ → Intake → Intake → Outlet → Outlet → Type 0
-TellsUsage number old new before after =
-    ((number ≡ 2) × (new ≡ old) × Appends before.held after.held (codes "usage: dcp_main run | gen SEED COUNT\n") × (after.faults ≡ before.faults))
-    ⊎ (((number ≡ 5) × (new ≡ old) × WrotePart before.held after.held (codes "usage: dcp_main run | gen SEED COUNT\n") × Rose before.faults after.faults)
-    ⊎ ((number ≡ 6) × (new ≡ old) × WrotePart before.held after.held (codes "usage: dcp_main run | gen SEED COUNT\n") × (after.faults ≡ before.faults)))
+-- memory was short, after a front part of the line.
+abbrev pub TellsUsage : ℕ → Outlet → Outlet → Type 0
+TellsUsage number before after =
+    ((number ≡ 2) × Appends before.held after.held (codes "usage: dcp_main run | gen SEED COUNT | storm SEED CLIENTS WRITES\n") × (after.faults ≡ before.faults))
+    ⊎ (((number ≡ 5) × WrotePart before.held after.held (codes "usage: dcp_main run | gen SEED COUNT | storm SEED CLIENTS WRITES\n") × Rose before.faults after.faults)
+    ⊎ ((number ≡ 6) × WrotePart before.held after.held (codes "usage: dcp_main run | gen SEED COUNT | storm SEED CLIENTS WRITES\n") × (after.faults ≡ before.faults)))

@@ -97,14 +97,18 @@ GenRan seed count old new before after answer = (new ≡ old) × GenTold seed co
 
 -- the usage line
 abbrev pub usage_text : List ℕ
-usage_text = codes "usage: dcp_main run | gen SEED COUNT\n"
+usage_text = codes "usage: dcp_main run | gen SEED COUNT | storm SEED CLIENTS WRITES\n"
 
--- the words are none that the program has: nothing was read, and the usage line was written, or a front part of it
-abbrev pub UsageTold : Intake → Intake → Outlet → Outlet → Status → Type 0
-UsageTold old new before after status.Usage = (new ≡ old) × WroteAll before after usage_text
-UsageTold old new before after status.WriteFault = (new ≡ old) × Stopped before after usage_text status.WriteFault
-UsageTold old new before after status.NoMemory = (new ≡ old) × Stopped before after usage_text status.NoMemory
-UsageTold old new before after status.Ok = ⊥
-UsageTold old new before after status.BadLine = ⊥
-UsageTold old new before after status.ReadFault = ⊥
-UsageTold old new before after status.InputTooLong = ⊥
+-- the words are none that the program has: the usage line was written, or a front part of it
+abbrev pub UsageTold : Outlet → Outlet → Status → Type 0
+UsageTold before after status.Usage = WroteAll before after usage_text
+UsageTold before after status.WriteFault = Stopped before after usage_text status.WriteFault
+UsageTold before after status.NoMemory = Stopped before after usage_text status.NoMemory
+UsageTold before after status.Ok = ⊥
+UsageTold before after status.BadLine = ⊥
+UsageTold before after status.ReadFault = ⊥
+UsageTold before after status.InputTooLong = ⊥
+
+-- and nothing was read
+abbrev pub UsageAlone : Intake → Intake → Outlet → Outlet → Status → Type 0
+UsageAlone old new before after answer = (new ≡ old) × UsageTold before after answer

@@ -6,6 +6,7 @@ use Rattle.std.specs.IoError.{error_kind}
 use Rattle.std.specs.declared.io.Error.{Error}
 use Rattle.std.specs.declared.io.ErrorKind.TheVariants as kind
 use Rattle.script_text.specs.Numbers.{number_of}
+use Rattle.storm_model.specs.Limits.{is_storm}
 use Rattle.dcp_main.specs.declared.words.TheConstants.{MAX_COUNT}
 use Rattle.dcp_io.specs.declared.status.Status.{Status}
 use Rattle.dcp_io.specs.declared.status.Status.TheVariants as status
@@ -34,6 +35,28 @@ gen_words (word ∷ []) = None
 gen_words (word ∷ seed ∷ []) = None
 gen_words (word ∷ seed ∷ count ∷ []) = if bytes_eq word (codes "gen") then both_said (number_of seed) (if_count (number_of count)) else None
 gen_words (word ∷ seed ∷ count ∷ next ∷ words) = None
+
+-- the first word is `storm`
+abbrev pub starts_storm : List (List ℕ) → Bool
+starts_storm [] = false
+starts_storm (word ∷ words) = bytes_eq word (codes "storm")
+
+-- a seed, how many clients there are and how many writes each makes, where all three are there and a storm may have so many
+abbrev pub if_storm : Option ℕ → Option ℕ → Option ℕ → Option (ℕ × (ℕ × ℕ))
+if_storm None clients writes = None
+if_storm (Some seed) None writes = None
+if_storm (Some seed) (Some clients) None = None
+if_storm (Some seed) (Some clients) (Some writes) = if is_storm clients writes then Some (seed, (clients, writes)) else None
+
+-- the words are `storm` with these three behind it: that storm is to be run
+abbrev pub storm_words : List (List ℕ) → Option (ℕ × (ℕ × ℕ))
+storm_words [] = None
+storm_words (word ∷ []) = None
+storm_words (word ∷ seed ∷ []) = None
+storm_words (word ∷ seed ∷ clients ∷ []) = None
+storm_words (word ∷ seed ∷ clients ∷ writes ∷ []) =
+    if bytes_eq word (codes "storm") then if_storm (number_of seed) (number_of clients) (number_of writes) else None
+storm_words (word ∷ seed ∷ clients ∷ writes ∷ next ∷ words) = None
 
 -- the words to go by, or how the process ends
 abbrev pub Answered : Type 0

@@ -1,14 +1,19 @@
 //! The top calls.
 ghost use Rattle.std.specs.Prelude.{◌≡◌, ◌+◌, ◌<◌, ◌≤◌, ◌^◌, ℕ, IsTrue, Some, None, false, map, string_bytes};
-ghost use Rattle.{dcp_main.specs.Runs.{Ran, Complete, GenRan, GenTold, UsageTold}, dcp_main.specs.Words.{gen_words, says_run}};
+ghost use Rattle.{dcp_main.specs.Runs.{Ran, Complete, GenRan, GenTold, UsageAlone, UsageTold}, dcp_main.specs.Words.{gen_words, says_run, storm_words}};
+ghost use Rattle.storm.specs.Told.{StormTold};
 ghost use Rattle.dcp_io.specs.declared.input.TheConstants.{MAX_INPUT};
 
 use crate::output::run_script;
+use crate::storm_words::storm_words;
 use crate::summary::summarize;
 use crate::words::{gen_words, is_run};
 use dcp_io::{Sink, Source, Status, put_bad_line, put_text, read_all};
 use script_text::{ScriptLines, check};
 use std::alloc::Global;
+use std::sync::Wait;
+use std::thread::Threads;
+use storm::storm_main;
 
 /// Runs the script that the source gives, and writes its transcript, a group a line.
 ///
@@ -66,9 +71,21 @@ pub fn gen_main<O: Sink>(alloc: Global, seed: u64, count: u32, output: &mut O) -
         .unwrap_or(Status::Ok)
 }
 
-/// Does what the command line asks for: `run` is [`script_main`], and `gen SEED COUNT` is
-/// [`gen_main`], which reads nothing. At any other words nothing is read, and `Usage` says that the
-/// usage line was written whole.
+/// Writes the usage line.
+fn put_usage<O: Sink>(output: &mut O) -> Status
+    ensures { UsageTold (O.outlet output.old) (O.outlet output.new) result }
+{
+    put_text(
+        output,
+        b"usage: dcp_main run | gen SEED COUNT | storm SEED CLIENTS WRITES\n",
+    )
+    .err()
+    .unwrap_or(Status::Usage)
+}
+
+/// Does what the command line asks for, where that is no storm: `run` is [`script_main`], and
+/// `gen SEED COUNT` is [`gen_main`], which reads nothing. At any other words nothing is read, and
+/// `Usage` says that the usage line was written whole.
 pub fn dcp_main<I: Source, O: Sink>(
     alloc: Global,
     words: &[String],
@@ -82,7 +99,7 @@ pub fn dcp_main<I: Source, O: Sink>(
     ensures made { (seed count : ℕ) → gen_words (map string_bytes words.now) ≡ Some (seed, count)
         → GenRan seed count (I.intake input.old) (I.intake input.new) (O.outlet output.old) (O.outlet output.new) result }
     ensures other { says_run (map string_bytes words.now) ≡ false → gen_words (map string_bytes words.now) ≡ None
-        → UsageTold (I.intake input.old) (I.intake input.new) (O.outlet output.old) (O.outlet output.new) result }
+        → UsageAlone (I.intake input.old) (I.intake input.new) (O.outlet output.old) (O.outlet output.new) result }
     ensures turns { (I.intake input.new).turns ≤ (I.intake input.old).turns + MAX_INPUT + 1 }
 {
     if is_run(words) {
@@ -91,7 +108,28 @@ pub fn dcp_main<I: Source, O: Sink>(
     if let Some((seed, count)) = gen_words(words) {
         return gen_main(alloc, seed, count, output);
     }
-    put_text(output, b"usage: dcp_main run | gen SEED COUNT\n")
-        .err()
-        .unwrap_or(Status::Usage)
+    put_usage(output)
+}
+
+/// Runs the storm that the words ask for, on threads, and writes its four lines, which are those of the clients one after
+/// the other, whatever their order was. At any other words no thread is started, and `Usage` says that the usage
+/// line was written whole. It has nothing to read from, and it may wait: what is said here holds where it returns.
+///
+/// - `Ok`: exactly these lines were written.
+/// - `WriteFault`: the sink's count of faults rose; `NoMemory`: it did not. At both, what was written is a front
+///   part of these lines, or of the usage line, perhaps nothing.
+pub fn dcp_storm<R: Threads + Wait + Sync, O: Sink>(
+    rt: &R,
+    alloc: Global,
+    words: &[String],
+    output: &mut O,
+) -> Status
+    ensures storm { (seed clients writes : ℕ) → storm_words (map string_bytes words.now) ≡ Some (seed, (clients, writes))
+        → StormTold seed clients writes (O.outlet output.old) (O.outlet output.new) result }
+    ensures other { storm_words (map string_bytes words.now) ≡ None → UsageTold (O.outlet output.old) (O.outlet output.new) result }
+{
+    match storm_words(words) {
+        Some(plan) => storm_main(rt, alloc, &plan, output),
+        None => put_usage(output),
+    }
 }

@@ -41,7 +41,7 @@ fn next_digit(number: Option<u64>, b: u8) -> Option<u64>
 
 /// The number that a word says in decimal digits, with no sign and no needless zero.
 #[tactic(auto, unfolding(script_text::specs::Numbers::number_of))]
-fn number(text: &[u8]) -> Option<u64>
+pub fn number(text: &[u8]) -> Option<u64>
     ensures { result ≡ number_of text.now }
 {
     if text.is_empty() || text.len() > 1 && text[0] == b'0' {
