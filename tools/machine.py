@@ -2,8 +2,8 @@
 """How many processors and how much memory there are, under the limits of a control group too.
 
 Called as a program it prints what RT_JOBS is best for 'rt ci' here, or nothing where rt's own choice is as good. rt
-reckons with two to nine times the memory that a check takes. So where there is enough for a check a processor, but not
-for what rt reckons with, it would leave processors idle.
+reckons with two to nine times the memory that a check takes, up to 10 GB for one. So where there is enough for a check
+a processor, but not for what rt reckons with, it would leave processors idle, and let the longest chain wait.
 """
 
 import os
@@ -45,7 +45,7 @@ def lanes() -> int:
 def jobs_of_rt(count: int, memory: int) -> Optional[int]:
     """One check a processor, where the memory is enough for that, and rt would not see it."""
     is_enough = count * 3_750_000_000 <= memory
-    is_seen = 4_000_000_000 * (count + 1) <= memory
+    is_seen = 10_000_000_000 * count <= memory
     return count if count > 1 and is_enough and not is_seen else None
 
 
