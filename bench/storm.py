@@ -3,10 +3,11 @@
 
     bench/storm.py [DCP]      DCP is the built program, by default crates/dcp_main/out/dcp_main
 
-The program that writes is bench/turns.rattle. Each of its threads makes the writes of a storm's client, on four vBuckets or
-all on one: each is a call of a turn, or of the same vBucket behind a plain `Mutex`. It stands in no crate, so the gate does
-not prove it. It is proved and built here first, which takes a minute or two, over the libraries that 'rt ci' or
-'./dcp prove' left in crates/*/out; DCP_LIBRARIES names another clone to take these from.
+The program that writes is bench/turns.rattle. Each of its threads makes the writes of a storm's client: on four vBuckets, of
+which each thread has one, so that four threads never meet; on the same four, each write to that one which a storm would write
+it to, so that they meet all the time; or all on one. Each is a call of a turn, or of the same vBucket behind a plain `Mutex`.
+It stands in no crate, so the gate does not prove it. It is proved and built here first, which takes some three minutes, over
+the libraries that 'rt ci' or './dcp prove' left in crates/*/out; DCP_LIBRARIES names another clone to take these from.
 
 Both ways take turns, and a row has the best of each: calls a second by the clock, and the processor time of the whole
 process by its calls. Behind that the longest call of a million, and `storm` with half and with all of its writes. A write
@@ -31,10 +32,13 @@ TURNS = 5
 CALLS = 1_000_000
 LONG = 1_000_000
 WAYS = ["turns", "locks"]
+# Which vBuckets the threads write to.
+OWN, ALL, ONE = "4, one a thread", "4, as in a storm", "1"
 # The most that a call by turns may take, to one under a lock, in processor time: by vBuckets and threads.
-GOALS = {(4, 1): 1.1, (1, 1): 1.1, (4, 2): 1.3, (4, 4): 1.3, (1, 4): 2.0}
+FOUR = {1: 1.1, 2: 1.3, 4: 1.3}
+GOALS = {OWN: FOUR, ALL: FOUR, ONE: {1: 1.1, 4: 2.0}}
 # How many times the calls a second of one thread there are to be where all processors are idle, by vBuckets and threads.
-FASTER = {(4, 4): 2.5}
+FASTER = {OWN: {4: 2.5}}
 STORMS = [("7", "64", "7812"), ("7", "64", "15625")]
 
 
@@ -84,9 +88,10 @@ def build(room: str) -> str:
     return f"{room}/turns"
 
 
-def write(program: str, way: str, threads: int, writes: int, vbuckets: int, is_timed: bool) -> Took:
-    """A run of so many threads, with so many writes each."""
-    words = [program, way, str(threads), str(writes), str(vbuckets), str(int(is_timed))]
+def write(program: str, way: str, threads: int, calls: int, on: str, is_timed: bool = False) -> Took:
+    """A run of so many threads, with so many calls in all."""
+    numbers = [threads, calls // threads, int(on.split(",")[0]), int(on == OWN), int(is_timed)]
+    words = [program, way, *map(str, numbers)]
     with subprocess.Popen(words, stdout=subprocess.PIPE, text=True) as started:
         told = started.stdout.read().split()
         _, status, used = os.wait4(started.pid, 0)
@@ -96,12 +101,12 @@ def write(program: str, way: str, threads: int, writes: int, vbuckets: int, is_t
     return Took(int(told[1]) / 1e9, used.ru_utime + used.ru_stime, int(told[5]) / 1e9)
 
 
-def best(program: str, threads: int, vbuckets: int, calls: int, is_timed: bool = False) -> dict[str, Took]:
+def best(program: str, threads: int, on: str) -> dict[str, Took]:
     """The best of all turns of each way, column by column."""
     runs: dict[str, list[Took]] = {way: [] for way in WAYS}
     for _ in range(TURNS):
         for way in WAYS:
-            runs[way].append(write(program, way, threads, calls // threads, vbuckets, is_timed))
+            runs[way].append(write(program, way, threads, CALLS, on))
     return {way: Took(*map(min, zip(*took))) for way, took in runs.items()}
 
 
@@ -109,24 +114,24 @@ def rows(program: str) -> Iterator[str]:
     heads = ["vBuckets", "Threads", "Calls a second", "Under a lock", "To 1 thread's"]
     heads += ["Processor µs a call", "Under a lock", "To those", "Goal"]
     yield f"| {' | '.join(heads)} |\n|{'---|' * len(heads)}"
-    for vbuckets in (4, 1):
+    for on in (OWN, ALL, ONE):
         alone = None
         for threads in THREADS:
-            turns, locks = best(program, threads, vbuckets, CALLS).values()
+            turns, locks = best(program, threads, on).values()
             calls = CALLS // threads * threads
             alone = alone or calls / turns.clock
-            goal = FASTER.get((vbuckets, threads))
+            goal = FASTER.get(on, {}).get(threads)
             faster = f"{calls / turns.clock / alone:.2f}" + (f", goal {goal}" if goal else "")
-            cells = [vbuckets, threads, f"{calls / turns.clock:,.0f}", f"{calls / locks.clock:,.0f}", faster]
+            cells = [on, threads, f"{calls / turns.clock:,.0f}", f"{calls / locks.clock:,.0f}", faster]
             cells += [f"{turns.processors / calls * 1e6:.2f}", f"{locks.processors / calls * 1e6:.2f}"]
-            cells += [f"{turns.processors / locks.processors:.2f}", GOALS.get((vbuckets, threads), "")]
+            cells += [f"{turns.processors / locks.processors:.2f}", GOALS[on].get(threads, "")]
             yield f"| {' | '.join(map(str, cells))} |"
 
 
 def longest(program: str) -> Iterator[str]:
     yield "| Threads on one vBucket | Calls | Longest call, ms | Under a lock, ms |\n|---|---|---|---|"
     for turn in range(TURNS):
-        turns, locks = (write(program, way, 4, LONG // 4, 1, True) for way in WAYS)
+        turns, locks = (write(program, way, 4, LONG, ONE, is_timed=True) for way in WAYS)
         yield f"| 4 | {LONG:,} | {turns.longest * 1e3:.1f} | {locks.longest * 1e3:.1f} |"
 
 
