@@ -1,12 +1,12 @@
 -- what jobs do, whatever the replies and the journals' answers
-use Rattle.std.proofs.Common.{◌≡◌, ℕ, List, [], ◌∷◌, ◌++◌, append-nil, append_assoc, refl, sym, ap, ◌∙◌, subst, Option, Some, None}
+use Rattle.std.proofs.Common.{zero, suc, ◌≡◌, ℕ, List, [], ◌∷◌, ◌++◌, append-nil, append_assoc, refl, sym, ap, ◌∙◌, subst, Option, Some, None}
 use Rattle.std.specs.Prelude.{◌==◌, if◌then◌else◌}
 use Rattle.std.proofs.lemmas.Bool.{eqb-true, false_from_ne_true}
 use Rattle.std.specs.List.{fold}
 use Rattle.vb_calls.specs.declared.calls.VbCall.{VbCall}
 use Rattle.vb_calls.specs.declared.calls.VbReply.{VbReply}
-use Rattle.vb_calls.specs.Jobs.{Job, Ended, Call, Request, bind_job, next_job, lift, after_job, AlwaysJob}
-use Rattle.vb_calls.specs.Programs.{Prog, AnyReply, AnyCall, AlwaysWith}
+use Rattle.vb_calls.specs.Jobs.{Job, Ended, Call, Request, bind_job, next_job, go_on_job, repeated_job, lift, after_job, AlwaysJob}
+use Rattle.vb_calls.specs.Programs.{Prog, Turn, More, Stop, AnyReply, AnyCall, AlwaysWith}
 use Rattle.vb_calls.specs.Programs as prog
 use Rattle.vb_calls.specs.Shelves.{Ask, Got, Shelf, Shelves, shelf_step, ask_at, shelves_step}
 use Rattle.vb_calls.specs.States.{States, states_step}
@@ -50,6 +50,18 @@ module _ (replies : VbCall → Option VbReply → Type 0) (calls : ℕ → VbCal
       → ((x : X) (a : A) → answers a → AlwaysJob replies calls requests answers (f x a))
       → (xs : List X) (job : Job A) → AlwaysJob replies calls requests answers job → AlwaysJob replies calls requests answers (fold (next_job f) job xs)
   always_each_job {X = X} answers f keep xs job before = always_front_job (λ (front : List X). answers) f (λ (front : List X). keep) [] xs job before
+
+  -- at most so many turns, with what holds behind each of them
+  pub always_repeated_job : {A R : Type 0} (turned : Turn A R → Type 0) (f : A → Job (Turn A R))
+      → ((a : A) → turned (More a) → AlwaysJob replies calls requests turned (f a))
+      → (n : ℕ) (a : A) → turned (More a) → AlwaysJob replies calls requests turned (repeated_job n f a)
+  always_repeated_job turned f keep zero a before = before
+  always_repeated_job {A = A} {R = R} turned f keep (suc n) a before =
+      always_bind_job turned turned (repeated_job n f a) (go_on_job f) (always_repeated_job turned f keep n a before) goes
+    where
+      goes : (t : Turn A R) → turned t → AlwaysJob replies calls requests turned (go_on_job f t)
+      goes (More b) so = keep b so
+      goes (Stop r) so = so
 
 -- what holds whatever the replies holds beside what holds of replies of one kind
 pub always_both_job : {A : Type 0} (replies : VbCall → Option VbReply → Type 0) (calls others : ℕ → VbCall → Type 0) (requests rest : ℕ → Ask → Type 0) (answers more : A → Type 0) (job : Job A)

@@ -8,5 +8,7 @@ pub mod Placing
 pub mod JobRuns
 pub mod JobReadings
 pub mod JobConduct
+pub mod Repeats
+pub mod Reads
 pub mod Faults
 pub mod Tellings

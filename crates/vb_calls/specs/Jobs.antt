@@ -1,11 +1,11 @@
 -- what a layer does with its vBuckets and their journals: the calls that it makes, what it asks of journals, and its answer at the end
-use Rattle.std.specs.Prelude.{◌≡◌, ℕ, List, Option, ◌⊎◌}
+use Rattle.std.specs.Prelude.{zero, suc, ◌≡◌, ℕ, List, Option, ◌⊎◌}
 use Rattle.std.specs.List.{fold}
 use Rattle.vb_calls.specs.declared.calls.VbCall.{VbCall}
 use Rattle.vb_calls.specs.declared.calls.VbReply.{VbReply}
-use Rattle.vb_calls.specs.Programs.{Prog}
+use Rattle.vb_calls.specs.Programs.{Prog, Turn, More, Stop}
 use Rattle.vb_calls.specs.Programs as prog
-use Rattle.vb_calls.specs.Shelves.{Ask, Look, Flush, Got, Shelves, shelves_step}
+use Rattle.vb_calls.specs.Shelves.{Ask, Read, Look, Flush, Got, Shelves, shelves_step}
 use Rattle.vb_calls.specs.States.{States, states_step}
 
 -- calls to vBuckets and requests to their journals, each with what the layer goes on to do with the answer
@@ -28,6 +28,15 @@ next_job f job x = bind_job job (f x)
 abbrev pub each_job : {X A : Type 0} → (X → A → Job A) → List X → A → Job A
 each_job f xs a = fold (next_job f) (Ended a) xs
 
+abbrev pub go_on_job : {A R : Type 0} → (A → Job (Turn A R)) → Turn A R → Job (Turn A R)
+go_on_job f (More a) = f a
+go_on_job f (Stop r) = Ended (Stop r)
+
+-- at most so many turns, until one stops
+abbrev pub repeated_job : {A R : Type 0} → ℕ → (A → Job (Turn A R)) → A → Job (Turn A R)
+repeated_job zero f a = Ended (More a)
+repeated_job (suc n) f a = bind_job (repeated_job n f a) (go_on_job f)
+
 -- a program that asks nothing of journals
 abbrev pub lift : {A : Type 0} → Prog A → Job A
 lift (prog.Done a) = Ended a
@@ -40,6 +49,12 @@ after_job (Call v call next) states shelves =
     let (states', reply) = states_step states v call in after_job (next reply) states' shelves
 after_job (Request v ask next) states shelves =
     let (shelves', got) = shelves_step shelves v ask in after_job (next got) states shelves'
+
+-- what a job that reads alone makes of the plain vBuckets, and its answer, while the plain journals are these
+abbrev pub after_reads : {A : Type 0} → Job A → Shelves → States → States × A
+after_reads (Ended a) shelves states = (states, a)
+after_reads (Call v call next) shelves states = let (states', reply) = states_step states v call in after_reads (next reply) shelves states'
+after_reads (Request v ask next) shelves states = after_reads (next (shelves_step shelves v ask).1) shelves states
 
 -- a job ran from one access and one keeper of journals to others, by steps of which `step` and `asks` tell
 abbrev pub RanJob : {W J A : Type 0} → (W → ℕ → VbCall → Option VbReply → W → Type 0) → (J → ℕ → (ask : Ask) → Got ask → J → Type 0) → Job A → W → J → A → W → J → Type 0
@@ -85,3 +100,8 @@ AlwaysJob replies calls requests answers (Call v call next) =
     calls v call × ((reply : Option VbReply) → replies call reply → AlwaysJob replies calls requests answers (next reply))
 AlwaysJob replies calls requests answers (Request v ask next) =
     requests v ask × ((got : Got ask) → AlwaysJob replies calls requests answers (next got))
+
+-- a request that reads, and leaves the journal as it is
+abbrev pub IsRead : ℕ → Ask → Type 0
+IsRead v Read = Unit {0}
+IsRead v other = ⊥

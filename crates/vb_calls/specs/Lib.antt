@@ -19,3 +19,5 @@ pub mod AllSteps
 pub mod Numbers
 pub mod Faults
 pub mod Tellings
+pub mod Repeats
+pub mod Reads

@@ -6,6 +6,7 @@ mod access;
 mod calls;
 mod fault_laws;
 mod flush_laws;
+mod job_laws;
 mod journals;
 mod laws;
 mod span;
@@ -18,6 +19,7 @@ pub use flush_laws::{
     all_steps_are_made, all_steps_in_numbers, roles_in_numbers, rollbacks_in_numbers,
     steps_in_numbers, vbuckets_stand_apart,
 };
+pub use job_laws::{reads_in_numbers, reads_leave_journals, turns_are_made, turns_in_numbers};
 pub use journals::{Flushed, Journals, Rolled, Wrote};
 pub use laws::{
     answers_have_forms, limits_in_numbers, readings_in_numbers, some_calls_take_no_memory,
