@@ -8,7 +8,8 @@ pub mod Placing
 pub mod JobRuns
 pub mod JobReadings
 pub mod JobConduct
+pub mod JobBinds
 pub mod Repeats
-pub mod Reads
+pub mod JournalReads
 pub mod Faults
 pub mod Tellings

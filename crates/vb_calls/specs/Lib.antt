@@ -20,4 +20,4 @@ pub mod Numbers
 pub mod Faults
 pub mod Tellings
 pub mod Repeats
-pub mod Reads
+pub mod JournalReads

@@ -1,7 +1,7 @@
 //! What jobs that repeat do, and those that read alone, each law as the contract of a function that does
 //! nothing.
 ghost use Rattle.vb_calls.specs.{Jobs.{Job}, Programs.{Turn}};
-ghost use Rattle.vb_calls.specs.Reads.{ReadsInNumbers, ReadsLeaveJournals};
+ghost use Rattle.vb_calls.specs.JournalReads.{ReadsInNumbers, ReadsLeaveJournals};
 ghost use Rattle.vb_calls.specs.Repeats.{TurnsAreMade, TurnsInNumbers};
 
 use crate::access::VbAccess;

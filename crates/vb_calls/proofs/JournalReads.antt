@@ -2,7 +2,7 @@
 use Rattle.std.proofs.Common.{◌≡◌, ℕ, refl, sym, ap, subst}
 use Rattle.vb_calls.specs.Jobs.{IsRead}
 use Rattle.vb_calls.specs.Programs.{AnyCall}
-use Rattle.vb_calls.specs.Reads.{ReadsInNumbers, ReadsLeaveJournals}
+use Rattle.vb_calls.specs.JournalReads.{ReadsInNumbers, ReadsLeaveJournals}
 use Rattle.vb_calls.specs.Shelves.{Ask, Append, Read, Look, Keep, Shut}
 use Rattle.vb_calls.proofs.JobReadings.{reads_leave}
 
