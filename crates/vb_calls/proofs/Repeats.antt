@@ -28,11 +28,12 @@ module _ {W J A R : Type 0} (step : W → ℕ → VbCall → Option VbReply → 
   all_went : (n : ℕ) (a : A) (old : W) (kept : J) (b : A) (new : W) (left : J) → RanJob step asks (repeated_job n f a) old kept (More b) new left → WentOn step asks f n a old kept b new left
   all_went zero a old kept b new left ran = (cc ran.0, ran.1, ran.2)
   all_went (suc n) a old kept b new left ran =
-      let (t, mid, held, first, second) = bind_ran_job step asks (repeated_job n f a) (go_on_job f) old kept (More b) new left ran in by t mid held first second
+      let (t, mid, held, first, second) = bind_ran_job step asks (repeated_job n f a) (go_on_job f) old kept (More b) new left ran in by (all_went n a old kept) t mid held first second
     where
-      by : (t : Turn A R) (mid : W) (held : J) → RanJob step asks (repeated_job n f a) old kept t mid held → RanJob step asks (go_on_job f t) mid held (More b) new left → WentOn step asks f (suc n) a old kept b new left
-      by (More c) mid held first second = went_next n a old kept c mid held b new left (all_went n a old kept c mid held first) second
-      by (Stop r) mid held first second = absurd (cc second.0)
+      by : ((c : A) (mid : W) (held : J) → RanJob step asks (repeated_job n f a) old kept (More c) mid held → WentOn step asks f n a old kept c mid held)
+          → (t : Turn A R) (mid : W) (held : J) → RanJob step asks (repeated_job n f a) old kept t mid held → RanJob step asks (go_on_job f t) mid held (More b) new left → WentOn step asks f (suc n) a old kept b new left
+      by before (More c) mid held first second = went_next n a old kept c mid held b new left (before c mid held first) second
+      by before (Stop r) mid held first second = absurd (cc second.0)
 
   -- one turn in front of the others
   first_turn : (n : ℕ) (a : A) (old : W) (kept : J) (c : A) (mid : W) (held : J) (t : Turn A R) (new : W) (left : J) → RanJob step asks (f a) old kept (More c) mid held → RanJob step asks (repeated_job n f c) mid held t new left → RanJob step asks (repeated_job (suc n) f a) old kept t new left
@@ -61,10 +62,11 @@ module _ {W J A R : Type 0} (step : W → ℕ → VbCall → Option VbReply → 
   has_stopped : (n : ℕ) (a : A) (old : W) (kept : J) (r : R) (new : W) (left : J) → RanJob step asks (repeated_job n f a) old kept (Stop r) new left → StoppedWithin step asks f n a old kept r new left
   has_stopped zero a old kept r new left ran = absurd (cc ran.0)
   has_stopped (suc n) a old kept r new left ran =
-      let (t, mid, held, first, second) = bind_ran_job step asks (repeated_job n f a) (go_on_job f) old kept (Stop r) new left ran in by t mid held first second
+      let (t, mid, held, first, second) = bind_ran_job step asks (repeated_job n f a) (go_on_job f) old kept (Stop r) new left ran in by (has_stopped n a old kept r new left) t mid held first second
     where
-      by : (t : Turn A R) (mid : W) (held : J) → RanJob step asks (repeated_job n f a) old kept t mid held → RanJob step asks (go_on_job f t) mid held (Stop r) new left → StoppedWithin step asks f (suc n) a old kept r new left
-      by (More c) mid held first second = record {
+      by : (RanJob step asks (repeated_job n f a) old kept (Stop r) new left → StoppedWithin step asks f n a old kept r new left)
+          → (t : Turn A R) (mid : W) (held : J) → RanJob step asks (repeated_job n f a) old kept t mid held → RanJob step asks (go_on_job f t) mid held (Stop r) new left → StoppedWithin step asks f (suc n) a old kept r new left
+      by before (More c) mid held first second = record {
         turns = n;
         fewer = omega arith;
         last = c;
@@ -73,8 +75,8 @@ module _ {W J A R : Type 0} (step : W → ℕ → VbCall → Option VbReply → 
         went = all_went n a old kept c mid held first;
         stopped = second;
       }
-      by (Stop q) mid held first second =
-          stop_wider n a old kept r new left (has_stopped n a old kept r new left (stayed (repeated_job n f a) (Stop q) (Stop r) old kept mid new held left first second.0 second.1 second.2))
+      by before (Stop q) mid held first second =
+          stop_wider n a old kept r new left (before (stayed (repeated_job n f a) (Stop q) (Stop r) old kept mid new held left first second.0 second.1 second.2))
 
   stopped_so : (n : ℕ) (a : A) (old : W) (kept : J) (r : R) (new : W) (left : J) → StoppedWithin step asks f n a old kept r new left → RanJob step asks (repeated_job n f a) old kept (Stop r) new left
   stopped_so n a old kept r new left so =
