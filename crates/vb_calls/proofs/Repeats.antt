@@ -1,5 +1,5 @@
 -- what the turns of a loop come to, from the first one on
-use Rattle.std.proofs.Common.{zero, suc, arith, ◌+◌, ◌<◌, ◌≡◌, ◌⊎◌, ℕ, Option, refl, ap, sym, subst, inl, inr}
+use Rattle.std.proofs.Common.{zero, suc, arith, ◌≡◌, ◌⊎◌, ℕ, Option, refl, ap, sym, subst, inl, inr}
 use Rattle.vb_calls.specs.declared.calls.VbCall.{VbCall}
 use Rattle.vb_calls.specs.declared.calls.VbReply.{VbReply}
 use Rattle.vb_calls.specs.Jobs.{Job, go_on_job, repeated_job, RanJob, BeganJob}

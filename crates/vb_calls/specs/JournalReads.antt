@@ -1,5 +1,5 @@
 -- what a job that reads alone leaves of journals and makes of vBuckets, and in numbers
-use Rattle.std.specs.Prelude.{true, ◌≡◌, ◌↔◌, ℕ, [], ◌∷◌, Option, Some, None}
+use Rattle.std.specs.Prelude.{true, ◌≡◌, ◌↔◌, ℕ, Option, Some, None}
 use Rattle.vb_types.specs.declared.journal.Record.{Record}
 use Rattle.vb_calls.specs.declared.calls.VbAnswer.TheVariants as answer
 use Rattle.vb_calls.specs.declared.calls.VbCall.TheVariants as call
