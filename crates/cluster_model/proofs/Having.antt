@@ -8,6 +8,7 @@ use Rattle.vb_types.specs.Histories.{upto, Rises}
 use Rattle.branch_model.specs.Snapshots.{HasLast, AllOf, Remains}
 use Rattle.branch_model.proofs.Lists.{from_upto, upto_in, upto_all, upto_down, upto_none, upto-upto, rises_upto, rises_push}
 use Rattle.branch_model.proofs.Following.{complete, remains_same}
+use Rattle.branch_model.proofs.Images.{plain_stands}
 use Rattle.branch_model.proofs.Lasts.{in_filter, kept_in_filter}
 use Rattle.branch_model.proofs.Holding.{HoldsAt, holds_forked, holds_push, holds_whole}
 use Rattle.cluster_model.specs.Clusters.{HasAll, above}
@@ -54,6 +55,14 @@ all_holds h held n of a = record {
 
 holds_all : (at : ℕ) (h held : List Change) → Rises 0 at held → HoldsAt 0 (λ m. m ≡ at) held h → HasAll h held at
 holds_all at h held r x = subst (λ l. Remains l h 0 at) (sym (upto_all 0 at at held r (omega arith))) (record { rises = r; of = x.of; has = x.has at refl })
+
+-- what is held in all at one seqno, among others
+pub holds_front : (at m : ℕ) (W : ℕ → Type 0) (h held : List Change) → Rises 0 at held → W m → HoldsAt 0 W held h → HasAll h held m
+holds_front at m W h held r whole x = record {
+  rises = rises_upto 0 at m held (omega arith) r;
+  of = λ y i. x.of y (from_upto y held m i).0;
+  has = λ s c e a b. let o = x.has m whole s c e a b in let level : o.0.seq ≡ c.seq = ap (λ (y : Change). y.seq) (plain_stands o.0 c o.2) in (o.0, upto_in o.0 held m o.1 (omega arith), o.2);
+}
 
 -- one more change at the end of both
 pub all_push : (at : ℕ) (h held : List Change) (c : Change) → Rises 0 at h → Rises 0 at held → at < c.seq → HasAll h held at → HasAll (h ++ c ∷ []) (held ++ c ∷ []) c.seq

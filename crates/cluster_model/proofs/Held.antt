@@ -7,14 +7,14 @@ use Rattle.vb_types.specs.Histories.{upto, Rises, IsIn, Slot, touches, last_of, 
 use Rattle.branch_model.specs.Histories.{StandsAs}
 use Rattle.branch_model.specs.Snapshots.{AllOf, Remains, Covers, IsComplete}
 use Rattle.branch_model.specs.Trees.{hist}
-use Rattle.branch_model.specs.Journals.{batches, end_of, items_of, complete_points, IsPoint}
+use Rattle.branch_model.specs.Journals.{batches, end_of, items_of, complete_points, points, IsPoint}
 use Rattle.branch_model.proofs.Lists.{from_upto, upto_in, upto_all, rises_le, rises_in, rises_higher, rises_upto, same_seq, last_in, last_above}
 use Rattle.branch_model.proofs.Images.{plain_stands, touches_same}
 use Rattle.branch_model.proofs.Branches.{hist_rises}
-use Rattle.branch_model.proofs.Holding.{holds_covers}
-use Rattle.cluster_model.specs.Clusters.{Cluster, HasAll, SoundCluster, above, member_fork}
+use Rattle.branch_model.proofs.Holding.{HoldsAt, holds_covers}
+use Rattle.cluster_model.specs.Clusters.{Cluster, HasAll, IsBatchEnd, SoundCluster, above, member_fork}
 use Rattle.cluster_model.proofs.Having.{all_holds, all_of}
-use Rattle.cluster_model.proofs.Backfilling.{items_remain}
+use Rattle.cluster_model.proofs.Backfilling.{end_low, items_held, items_hold, items_remain, items_rise}
 use Rattle.cluster_model.proofs.Carrying.{ss_le, whole_fork}
 
 stands_twice : (x y c : Change) → StandsAs x y → StandsAs y c → StandsAs x c
@@ -61,7 +61,7 @@ module _ (top n : ℕ) (h xs : List Change) (r : Rises 0 top h) (a : Remains xs 
       by (Some x) None eo ep = let i = last_in (touches s) xs x eo in let c = there s x i.0 i.1 in let z : None ≡ Some c.0 = sym ep ∙ c.1 in cc
 
 -- what has to come of what is held has to come of the history
-all_remains : (top n from : ℕ) (h held items : List Change) → Rises 0 top h → AllOf held h → HasAll h held n → Remains items held from n → Remains items h from n
+pub all_remains : (top n from : ℕ) (h held items : List Change) → Rises 0 top h → AllOf held h → HasAll h held n → Remains items held from n → Remains items h from n
 all_remains top n from h held items r of a m =
     record {
       rises = m.rises;
@@ -113,3 +113,37 @@ module _ (top : ℕ) (w : Cluster) (s : SoundCluster top w) (k : ℕ) where
       let bs = batches (w.disks k).book in
       all_remains top (end_of bs) place (hist w.tree n.br) n.held (filter (λ x. ltb place x.seq) (items_of bs)) branch_rises held_of (held_at (end_of bs) i)
       (items_remain n.position.at place n.held bs (s.stands k).rises (s.kept k).book.covered l)
+
+  -- where a batch of its journal ends, no further than the journal goes
+  pub batch_low : (n : ℕ) → IsBatchEnd n (points (w.disks k).book) → n ≤ end_of (batches (w.disks k).book)
+  batch_low n i = end_low (w.nodes k).held (batches (w.disks k).book) n (s.kept k).book.covered i
+
+  -- what its journal keeps up to there is a snapshot of its branch, where what it holds up to there is one
+  pub journal_has : (n : ℕ) → IsBatchEnd n (points (w.disks k).book) → HasAll (hist w.tree (w.nodes k).br) (w.nodes k).held n → HasAll (hist w.tree (w.nodes k).br) (items_of (batches (w.disks k).book)) n
+  journal_has n i a =
+      let m = w.nodes k in
+      let bs = batches (w.disks k).book in
+      all_remains top n 0 (hist w.tree m.br) m.held (upto (items_of bs) n) branch_rises held_of a (items_hold m.position.at m.held bs n (s.stands k).rises (s.kept k).book.covered i)
+
+  -- so each slot's last change there is the branch's
+  pub book_lasts : (n : ℕ) (slot : Slot) → IsBatchEnd n (points (w.disks k).book) → HasAll (hist w.tree (w.nodes k).br) (w.nodes k).held n
+      → option_map plain (last_of slot (upto (items_of (batches (w.disks k).book)) n)) ≡ option_map plain (last_of slot (upto (hist w.tree (w.nodes k).br) n))
+  book_lasts n slot i a = same_lasts top n (hist w.tree (w.nodes k).br) (upto (items_of (batches (w.disks k).book)) n) branch_rises (journal_has n i a) slot
+
+  -- all that its journal keeps is of its branch, which is held there in all
+  pub book_holds : (n : ℕ) → IsBatchEnd n (points (w.disks k).book) → HasAll (hist w.tree (w.nodes k).br) (w.nodes k).held n → HoldsAt 0 (λ m. m ≡ n) (items_of (batches (w.disks k).book)) (hist w.tree (w.nodes k).br)
+  book_holds n i a =
+      let bs = batches (w.disks k).book in
+      all_holds (hist w.tree (w.nodes k).br) (items_of bs) n
+      (λ x j. let o = items_held (w.nodes k).held bs x (s.kept k).book.covered j in let p = held_of o.0 o.1 in (p.0, p.1, stands_twice x o.0 p.0 o.2 p.2))
+      (journal_has n i a)
+
+  -- so a whole snapshot of what its journal keeps up to there is one of its branch
+  pub book_sends : (items : List Change) (from n : ℕ) → IsBatchEnd n (points (w.disks k).book) → HasAll (hist w.tree (w.nodes k).br) (w.nodes k).held n → Covers items (items_of (batches (w.disks k).book)) from n → Covers items (hist w.tree (w.nodes k).br) from n
+  book_sends items from n i a c =
+      let bs = batches (w.disks k).book in
+      let h = hist w.tree (w.nodes k).br in
+      let most = end_of bs + top in
+      holds_covers 0 (λ m. m ≡ n) most (items_of bs) h items from n
+      (rises_higher 0 (end_of bs) most (items_of bs) (omega arith) (items_rise (w.nodes k).held bs (s.kept k).book.covered)) (rises_higher 0 top most h (omega arith) branch_rises)
+      (book_holds n i a) refl (omega arith) c

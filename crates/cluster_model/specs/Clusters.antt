@@ -238,6 +238,11 @@ abbrev pub IsSpot : Position → List Position → Type 0
 IsSpot p [] = ⊥
 IsSpot p (q ∷ qs) = (p ≡ q) ⊎ IsSpot p qs
 
+-- a batch of one of these positions ends there, or it is 0, where a journal begins
+abbrev pub IsBatchEnd : ℕ → List Position → Type 0
+IsBatchEnd n [] = n ≡ 0
+IsBatchEnd n (p ∷ ps) = (n ≡ p.at) ⊎ IsBatchEnd n ps
+
 -- the link is open
 abbrev pub IsOpen : Option (List Change) → Type 0
 IsOpen None = ⊥
