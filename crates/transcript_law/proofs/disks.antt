@@ -8,6 +8,7 @@ pub mod Burning
 pub mod Crashed
 pub mod Disks
 pub mod Downed
+pub mod Ends
 pub mod Firing
 pub mod Flushed
 pub mod Noting

@@ -1,6 +1,6 @@
 -- a journal that is kept, after one more append under its node's arm
 use Rattle.std.specs.Prelude.{◌≡◌, ◌<◌, ◌≤◌, ◌^◌, ◌∷◌, if◌then◌else◌}
-use Rattle.transcript_law.proofs.Words.{ℕ, Bool, true, false, List, refl, ap, sym, ◌∙◌, subst, arith, inl, ⊎_elim, Option, Some, None, Answer, Cause, Chronicle, Cluster, Move, Plain, PlainNode, PlainWorld, Role, LogEntry, SoundCluster, with_id}
+use Rattle.transcript_law.proofs.Words.{ℕ, Bool, true, false, List, refl, ap, sym, ◌∙◌, subst, arith, inl, inr, ⊎_elim, Option, Some, None, Answer, Cause, Chronicle, Cluster, Move, Plain, PlainNode, PlainWorld, Role, LogEntry, SoundCluster, with_id}
 use Rattle.transcript_law.proofs.Words.{Member, consumer_node, eq-eqb, eqb-true, happens, is_some, keeps, link_number, ne_eqb, not, producer_node, shelf_in, vb_in, with_node_at}
 use Rattle.std.specs.Prelude.{◌==◌}
 use Rattle.transcript_law.proofs.{invariant.{Carried.{all_there}, Carrying.{SameClients}, Owed.{fewer_same}, ClientsKept.{ConnsKept, Every, clients_kept, every_owed, goes_same, spot_at}, LinkFeeds.{feeds_same}}, verbs.NodeLines.{clients_again}}
@@ -52,6 +52,8 @@ module _ {told : DiskKnown} {d : Disk} {shelf : Shelf} {x : Parts} (a : ShelfIs 
     floor = a.floor;
     cas = a.cas;
     late_cas = λ r e. cc;
+    ended = a.ended;
+    written = a.written;
   }
 
   -- a batch that was taken
@@ -79,6 +81,8 @@ module _ {told : DiskKnown} {d : Disk} {shelf : Shelf} {x : Parts} (a : ShelfIs 
         floor = let f : x.floor ≤ (place_of d.book).at = a.floor in omega arith;
         cas = o.4;
         late_cas = λ r e. cc;
+        ended = inr a.ended;
+        written = λ seq e. inl (let z : Written b.position.at ≡ Written seq = e in let same : b.position.at ≡ seq = cc in sym same);
       })
 
   -- an append that was broken off closes it
@@ -100,6 +104,8 @@ module _ {told : DiskKnown} {d : Disk} {shelf : Shelf} {x : Parts} (a : ShelfIs 
     floor = a.floor;
     cas = a.cas;
     late_cas = λ q e. subst (λ y. cas_of_last (y ∷ d.book) < 2 ^ 64) (late_is f r q e) small;
+    ended = a.ended;
+    written = a.written;
   }
 
   -- and a batch that could not be appended is gone
@@ -122,6 +128,8 @@ module _ {told : DiskKnown} {d : Disk} {shelf : Shelf} {x : Parts} (a : ShelfIs 
         floor = a.floor;
         cas = a.cas;
         late_cas = a.late_cas;
+        ended = a.ended;
+        written = λ seq e. let z : Idle ≡ Written seq = e in cc;
       }
 
 -- a batch once it was appended, or once it could not be

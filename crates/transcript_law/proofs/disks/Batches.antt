@@ -1,11 +1,15 @@
--- the changes of a batch, the span that it is taken from, and a vBucket of which more counts as saved
-use Rattle.std.specs.Prelude.{◌≡◌, ◌<◌, ◌≤◌, ◌∷◌}
-use Rattle.transcript_law.proofs.Words.{ℕ, Bool, true, false, List, [], length, refl, ap, sym, ◌∙◌, subst, arith, inl, inr, ⊎_elim, Some, Plain, Span, Sound, Change, last_seq, IsIn, Rises, cond, ltb-true, rises_in, Own, Received}
+-- the changes of a batch, the span that it is taken from, a vBucket of which more counts as saved, and spans that are filled
+use Rattle.std.specs.Prelude.{◌≡◌, ◌+◌, ◌<◌, ◌≤◌, ◌∷◌, ◌++◌, ◌&&◌, if◌then◌else◌}
+use Rattle.transcript_law.proofs.Words.{ℕ, Bool, true, false, List, [], length, refl, ap, sym, ◌∙◌, subst, arith, inl, inr, ⊎_elim, Some, Plain, Span, Sound, Change, last_seq, IsIn, Rises, cond, ltb-true, rises_in, Own, Received, flat_map, length-append, list_any}
 use Rattle.transcript_law.proofs.{invariant.Wholes.{IsSpanIn}}
 use Rattle.std.specs.List.{find}
-use Rattle.std.specs.Prelude.{nat_lt}
-use Rattle.vb_calls.specs.Spans.{span_position}
+use Rattle.std.specs.Prelude.{nat_le, nat_lt}
+use Rattle.std.specs.Str.{bytes_eq}
+use Rattle.std.proofs.lemmas.Bool.{and_from, le-leb, lt-ltb}
+use Rattle.branch_model.proofs.Lasts.{kept_in_filter}
+use Rattle.vb_calls.specs.Spans.{key_lasts, live_in, live_of, span_position, stretch}
 use Rattle.vb_calls.specs.declared.span.Origin.{Origin}
+use Rattle.vbucket.specs.Laws.{AllSpans, Follow}
 
 -- of lists of changes that rise, one whose seqnos are all in the other is no longer
 pub fewer : (a b m d : ℕ) (xs ys : List Change) → Rises a b xs → Rises m d ys → ((x : Change) → IsIn x xs → (y : Change) × IsIn y ys × (x.seq ≡ y.seq)) → length xs ≤ length ys
@@ -45,3 +49,29 @@ span_found n (y ∷ ys) x e = by (nat_lt n y.last) refl e (span_found n ys x)
 -- a vBucket of which more counts as saved is sound as it was
 pub saved_sound : (vb : Plain) (saved : ℕ) → Sound vb → vb.floor ≤ saved → Sound (record vb { saved = saved })
 saved_sound vb saved s l = record { spanned = s.spanned; placed = s.placed; stamped = s.stamped; based = s.based; saved = l; counted = s.counted; feeds = s.feeds }
+
+-- where there are changes, one is live
+lasts_some : (xs : List Change) (c : Change) → IsIn c xs → 0 < length (key_lasts xs)
+lasts_some [] c i = absurd i
+lasts_some (x ∷ []) c i = omega arith
+lasts_some (x ∷ y ∷ ys) c i = by (list_any (λ d. bytes_eq d.key x.key) (y ∷ ys)) (lasts_some (y ∷ ys) y (inl refl))
+  where
+    by : (b : Bool) → 0 < length (key_lasts (y ∷ ys)) → 0 < length (if b then key_lasts (y ∷ ys) else x ∷ key_lasts (y ∷ ys))
+    by true l = l
+    by false l = omega arith
+
+live_some : (o : Origin) (xs : List Change) (c : Change) → IsIn c xs → 0 < length (live_of o xs)
+live_some Own xs c i = lasts_some xs c i
+live_some (Received ss se) [] c i = absurd i
+live_some (Received ss se) (x ∷ xs) c i = omega arith
+
+-- no span is empty
+pub spans_filled : (low high : ℕ) (h : List Change) (ws : List Span) → Follow low ws high → AllSpans h ws → length ws ≤ length (flat_map (λ x. live_in x h) ws)
+spans_filled low high h [] f t = omega arith
+spans_filled low high h (x ∷ xs) f t =
+    let rest = spans_filled x.last high h xs f.2 t.1 in
+    let above_is : x.above ≡ low = f.0 in let up : low < x.last = f.1 in let (last, there, ends) = t.0.ends in let level : last.seq ≡ x.last = ends in
+    let some = live_some x.origin (stretch x.above x.last h) last (kept_in_filter (λ d. nat_lt x.above d.seq && nat_le d.seq x.last) last h there
+    (and_from (nat_lt x.above last.seq) (nat_le last.seq x.last) (lt-ltb x.above last.seq (omega arith)) (le-leb last.seq x.last (omega arith)))) in
+    let all : length (live_in x h ++ flat_map (λ x. live_in x h) xs) ≡ length (live_in x h) + length (flat_map (λ x. live_in x h) xs) = length-append (live_in x h) (flat_map (λ x. live_in x h) xs) in
+    omega arith

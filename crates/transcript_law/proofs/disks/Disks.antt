@@ -1,7 +1,7 @@
 -- what a vBucket wrote down, as the lines tell it, as its journal has it, and as its member of the cluster has it
 use Rattle.std.specs.Prelude.{◌≡◌, ◌<◌, ◌≤◌, ◌^◌, ◌∷◌, []}
 use Rattle.transcript_law.proofs.Words.{ℕ, Bool, true, false, map, PlainNode, List, Option, Some, None, refl, sym, ap, ◌∙◌, subst, inl, inr, ⊎_elim, Position, Plain, PlainWorld, Spans, all_spans, with_seal, with_change, no_spans, Span, Grown, shelf_in}
-use Rattle.{branch_model.specs.Journals.{cas_of_last, place_of}, cluster_model.specs.Clusters.{Disk, IsSpot, opened}, std.specs.Prelude.{option_map, option_to_list}, vb_calls.specs.Shelves.{Flush, Idle, Out, Written, Shelf, blank_shelf}}
+use Rattle.{branch_model.specs.Journals.{cas_of_last, place_of, points}, cluster_model.specs.Clusters.{Disk, IsBatchEnd, IsSpot, opened}, std.specs.Prelude.{option_map, option_to_list}, vb_calls.specs.Shelves.{Flush, Idle, Out, Written, Shelf, blank_shelf}}
 use Rattle.{node_core.specs.Clients.{PlainClient}, std.specs.Prelude.{option_and_then}, transcript_law.specs.Feeding.{client_in}}
 use Rattle.{disk_journals.specs.Books.{Book}, node_world.specs.declared.arm.Arm.{Arm}, vb_disk.specs.declared.fuse.Fuse.TheVariants.{Off}, vb_types.specs.declared.journal.Record.{Record}}
 use Rattle.vb_types.specs.declared.journal.Record.TheVariants as noted
@@ -81,7 +81,7 @@ FlushIs closed Idle told batch taken place = (told ≡ Flushing.Idle) × (closed
 FlushIs closed (Out b) told batch taken place = (told ≡ Flushing.Taken (known_batch b.position b.log)) × (closed ≡ false → batch ≡ Some b) × (taken ≡ b.position.at) × (place ≤ b.position.at) × (b.cas < 2 ^ 64)
 FlushIs closed (Written seq) told batch taken place = (told ≡ Flushing.Written seq) × (closed ≡ false → taken ≡ place) × (place ≤ taken)
 
--- a journal has the records of the member's disk, and the lines tell of them and of its batches. A record whose append was broken off is there only where it is closed
+-- a journal has the records of the member's disk, and the lines tell of them and of its batches. A record whose append was broken off is there only where it is closed. What counts as saved is the end of a batch that stands, and so is what will count once it is told that the last batch was written down
 pub record ShelfIs (told : DiskKnown) (d : Disk) (shelf : Shelf) (x : Parts) : Type 0 where
   pub book : d.book ≡ shelf.book
   pub told_book : told.book ≡ map bare shelf.book
@@ -98,6 +98,8 @@ pub record ShelfIs (told : DiskKnown) (d : Disk) (shelf : Shelf) (x : Parts) : T
   pub floor : x.floor ≤ (place_of d.book).at
   pub cas : cas_of_last d.book < 2 ^ 64
   pub late_cas : (r : Record) → d.late ≡ Some r → cas_of_last (r ∷ d.book) < 2 ^ 64
+  pub ended : IsBatchEnd x.saved (points d.book)
+  pub written : (seq : ℕ) → shelf.flush ≡ Written seq → IsBatchEnd seq (points d.book)
 
 -- the disk of a vBucket that is not there: its member loads what stands on it, and nothing else is on its way
 pub record AwayAgrees (told : DiskKnown) (d : Disk) : Type 0 where
@@ -181,6 +183,8 @@ shelf_spanned {told} {d} {d' = d'} {shelf} {x} ws a book batch late spots =
       floor = subst (λ n. x.floor ≤ n) (sym at) a.floor;
       cas = subst (λ b. cas_of_last b < 2 ^ 64) (sym book) a.cas;
       late_cas = λ r e. subst (λ b. cas_of_last (r ∷ b) < 2 ^ 64) (sym book) (a.late_cas r (sym late ∙ e));
+      ended = subst (λ b. IsBatchEnd x.saved (points b)) (sym book) a.ended;
+      written = λ seq e. subst (λ b. IsBatchEnd seq (points b)) (sym book) (a.written seq e);
     }
 
 -- a vBucket whose open span was sealed

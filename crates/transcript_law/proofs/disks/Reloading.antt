@@ -12,13 +12,14 @@ use Rattle.transcript_law.proofs.invariant.Wholes.{WholeTo, spanned_none}
 use Rattle.transcript_law.proofs.links.Followed.{fork_low, no_writes, own_is}
 use Rattle.transcript_law.specs.Chronicles.{DiskKnown, rested, resting}
 use Rattle.branch_model.proofs.{Journaling.{items_image}, Lists.{rises_in, rises_le, upto_all, upto_in}}
-use Rattle.branch_model.specs.Journals.{batches, cas_of_last, end_of, items_of, log_of, place_of, role_of}
-use Rattle.cluster_model.specs.Clusters.{Disk, Told, above, member_fork}
+use Rattle.branch_model.specs.Journals.{batches, cas_of_last, end_of, items_of, log_of, place_of, points, role_of}
+use Rattle.cluster_model.proofs.Backfilling.{last_end}
+use Rattle.cluster_model.specs.Clusters.{Disk, IsBatchEnd, Told, above, member_fork}
 use Rattle.journal_points.specs.Points.{or_dead, saved}
 use Rattle.node_core.specs.Loading.{loaded_by}
 use Rattle.std.proofs.lemmas.List.{take_all}
 use Rattle.std.specs.FinMap.{get}
-use Rattle.vb_calls.specs.Shelves.{open_shelf}
+use Rattle.vb_calls.specs.Shelves.{Idle, Written, open_shelf}
 use Rattle.vb_calls.specs.State.{loaded_role}
 use Rattle.vb_types.specs.declared.journal.Record.{Record}
 use Rattle.vb_types.specs.declared.role.Role.TheVariants as role
@@ -168,4 +169,6 @@ module _ (w : PlainWorld) (r : Chronicle) (c : Cluster) (n v : ℕ) (a : AgreesI
     floor = let e : (place_of d.book).at ≡ (place_of js).at = ap (λ b. (place_of b).at) is in omega arith;
     cas = told.cas;
     late_cas = λ q e. let z : None ≡ Some q = sym late ∙ e in cc;
+    ended = subst (λ b. IsBatchEnd (place_of js).at (points b)) (sym is) (subst (λ n. IsBatchEnd n (points js)) (sym written.ends) (last_end (batches js)));
+    written = λ seq e. let z : Idle ≡ Written seq = e in cc;
   }

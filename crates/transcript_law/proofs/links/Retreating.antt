@@ -311,7 +311,7 @@ module _ (line : Line) (back : Back line) where
     -- and of its journal, wherever that stands then
     disk' : (s : Option Shelf) → s ≡ Some (under Off shelf') → DiskIsIf (told'.disk_at n v) (c'.disks k) s (Some fv')
     disk' s is = disk_same (Some fv') (Some fv') (at_here told.disk_at n v (disk_back to (told.disk_at n v))) (disk_here c.disks k (appended (c.disks k) (noted.Roll to))) is refl
-        (rolled_disk shelf fv to (image_at shelf.book to) (cas_of_last shelf.book) opens written)
+        (rolled_disk shelf fv to (image_at shelf.book to) (cas_of_last shelf.book) opens point_there written)
 
     journals : (q : ℕ) → (q ≡ v → ⊥) → shelves' q ≡ states.1 q
     journals q o = ap (λ b. if b then Some shelf' else states.1 q) (ne_eqb q v o)

@@ -3,10 +3,11 @@ use Rattle.transcript_law.proofs.{invariant.Bounded.{Weighs}, invariant.Waiting.
 use Rattle.std.specs.Prelude.{◌≡◌, ◌<◌, ◌≤◌, ◌∷◌, ◌==◌, ◌&&◌, ◌^◌, if◌then◌else◌}
 use Rattle.transcript_law.proofs.Words.{ℕ, Bool, true, false, cond, List, [], map, filter, refl, ap, sym, ◌∙◌, subst, arith, inl, inr, ⊎_elim, append-nil, Option, Some, None, fork_of, start_cases, image_of, Picture}
 use Rattle.transcript_law.proofs.Words.{nat_le, All, option_map, eq-eqb, eqb-true, All-nil, All-cons, All-head, All-tail, IsIn, Rises}
-use Rattle.branch_model.proofs.Journaling.{image_at_point, point_seq, rolls_farthest, rolls_to}
+use Rattle.branch_model.proofs.Journaling.{ends_cut, image_at_point, point_seq, rolls_farthest, rolls_to}
+use Rattle.cluster_model.proofs.Backfilling.{point_end}
 use Rattle.branch_model.proofs.Lists.{from_upto, rises_upto}
 use Rattle.transcript_law.proofs.Words.{Change, Chronicle, Dial, Ended, HasLast, LogEntry, Member, Plain, Sound, States, StaysSound, after_end, after_job, complete_position, is_dial_for, is_follower, kept_to, plain_step, quiet_reply, refusal_reply, request_of, upto, with_vb_at}
-use Rattle.transcript_law.proofs.disks.Disks.{ShelfIs, bare, no_spots, parts_of}
+use Rattle.transcript_law.proofs.disks.{Disks.{ShelfIs, bare, no_spots, parts_of}, Ends.{bare_batch, bare_batches}}
 use Rattle.transcript_law.proofs.invariant.Agreement.{ChangeFits, EntryFits, VbAgrees, all_rise, no_counts, no_lefts, no_times, own_history, vb_contents, vb_row}
 use Rattle.transcript_law.proofs.invariant.Carried.{no_writer}
 use Rattle.transcript_law.proofs.invariant.Holdings.{opened_as}
@@ -18,11 +19,11 @@ use Rattle.transcript_law.proofs.links.Followed.{no_writes}
 use Rattle.branch_model.specs.Journals.{Covered, IsPoint, batches, cas_of_last, complete_ends, complete_points, greatest, image_at, points, roll_point}
 use Rattle.{cluster_model.specs.Clusters.{Disk, HasAll, appended, rolled}, disk_journals.specs.Arms.{under}, std.proofs.lemmas.List.Elements.{All-filter}}
 use Rattle.std.specs.FinMap as finite
-use Rattle.{std.proofs.lemmas.Bool.{false_from_ne_true, and_parts}, transcript_law.specs.Chronicles.{DiskKnown, after_roll, disk_back, known_batch}, transcript_law.specs.Lawfulness.{IsFarthest, IsSavedEnd}, vb_calls.specs.Following.{cas_of, rolled_vb}}
+use Rattle.{std.proofs.lemmas.Bool.{false_from_ne_true, and_parts}, transcript_law.specs.Chronicles.{DiskKnown, after_roll, disk_back}, transcript_law.specs.Lawfulness.{IsFarthest, IsSavedEnd}, vb_calls.specs.Following.{cas_of, rolled_vb}}
 use Rattle.{vb_calls.specs.declared.calls.VbAnswer.TheVariants.{Named, Num}, vb_calls.specs.declared.calls.VbCall.TheVariants.{Ask, RollTo}}
 use Rattle.{vb_types.specs.declared.status.Status.TheVariants.{NotMyVbucket}}
 use Rattle.vb_calls.specs.Flushes.{read_job, roll_job, roll_to_job, rollable_job, rolled_by, rolled_job}
-use Rattle.vb_calls.specs.Shelves.{Append, Book, DiskFailed, Fate, Idle, Keep, Read, Shelf, Shelves, Shut, Stood, WasClosed, after_fate, shelf_step, late_of, with_shelf_at}
+use Rattle.vb_calls.specs.Shelves.{Append, Book, DiskFailed, Fate, Idle, Keep, Read, Shelf, Shelves, Shut, Stood, WasClosed, Written, after_fate, shelf_step, late_of, with_shelf_at}
 use Rattle.vb_journal.specs.UnderArms.{all_pass, burnt_noting}
 use Rattle.vb_disk.specs.declared.fuse.Fuse.TheVariants.{Off}
 use Rattle.vb_calls.specs.declared.journals.Rolled.TheVariants as rolled_as
@@ -104,25 +105,7 @@ rolled_agrees stays r n v m fv book to a f covered point low small heavy all =
       times = no_times fv.role (r.counts_at n v).times fv.waiting (no_writer fv.role f);
     }
 
--- batches as lines tell them end where they end
-abbrev bare_batch : Batch → Batch
-bare_batch b = known_batch b.position b.log
-
-bare_cut : (to : ℕ) (bs : List Batch) → filter (λ b. nat_le b.position.at to) (map bare_batch bs) ≡ map bare_batch (filter (λ b. nat_le b.position.at to) bs)
-bare_cut to [] = refl
-bare_cut to (b ∷ bs) = by (nat_le b.position.at to) (bare_cut to bs)
-  where
-    by : (k : Bool) → filter (λ b. nat_le b.position.at to) (map bare_batch bs) ≡ map bare_batch (filter (λ b. nat_le b.position.at to) bs)
-        → cond k (bare_batch b ∷ filter (λ b. nat_le b.position.at to) (map bare_batch bs)) (filter (λ b. nat_le b.position.at to) (map bare_batch bs)) ≡ map bare_batch (cond k (b ∷ filter (λ b. nat_le b.position.at to) bs) (filter (λ b. nat_le b.position.at to) bs))
-    by true e = ap (λ xs. bare_batch b ∷ xs) e
-    by false e = e
-
-bare_batches : (js : List Record) → batches (map bare js) ≡ map bare_batch (batches js)
-bare_batches [] = refl
-bare_batches (noted.State role log ∷ older) = bare_batches older
-bare_batches (noted.Rows b ∷ older) = ap (λ bs. bare_batch b ∷ bs) (bare_batches older)
-bare_batches (noted.Roll to ∷ older) = ap (filter (λ b. nat_le b.position.at to)) (bare_batches older) ∙ bare_cut to (batches older)
-
+-- so the batches that lines tell have the same complete ends
 bare_ends : (bs : List Batch) → complete_ends (map bare_batch bs) ≡ complete_ends bs
 bare_ends [] = refl
 bare_ends (b ∷ bs) = ap (λ xs. if b.position.at == b.position.se then b.position.at ∷ xs else xs) (bare_ends bs)
@@ -135,9 +118,10 @@ bare_point js named = ap (λ ps. greatest (filter (λ p. nat_le p named) ps)) (a
 abbrev pub rolled_shelf : Shelf → ℕ → Shelf
 rolled_shelf shelf to = record shelf { book = noted.Roll to ∷ shelf.book; flush = Idle; fuse = burnt_noting shelf.fuse }
 
-pub rolled_disk : {told : DiskKnown} {d : Disk} (shelf : Shelf) (fv : Plain) (to : ℕ) (image : Picture) (cas : ℕ) → shelf.is_closed ≡ false → ShelfIs told d (under Off shelf) (parts_of fv)
+-- it goes to the end of a batch that it leaves
+pub rolled_disk : {told : DiskKnown} {d : Disk} (shelf : Shelf) (fv : Plain) (to : ℕ) (image : Picture) (cas : ℕ) → shelf.is_closed ≡ false → IsPoint to (complete_points d.book) → ShelfIs told d (under Off shelf) (parts_of fv)
     → ShelfIs (disk_back to told) (appended d (noted.Roll to)) (under Off (rolled_shelf shelf to)) (parts_of (rolled_vb fv to image cas))
-rolled_disk {d = d} shelf fv to image cas opens x = record {
+rolled_disk {d = d} shelf fv to image cas opens point x = record {
   book = ap (λ b. noted.Roll to ∷ b) x.book;
   told_book = ap (λ b. noted.Roll to ∷ b) x.told_book;
   late = sym (x.none_late opens);
@@ -153,6 +137,8 @@ rolled_disk {d = d} shelf fv to image cas opens x = record {
   floor = omega arith;
   cas = x.cas;
   late_cas = λ r e. cc;
+  ended = point_end (filter (λ b. nat_le b.position.at to) (batches d.book)) to (ends_cut to to (batches d.book) point (omega arith));
+  written = λ seq e. let z : Idle ≡ Written seq = e in cc;
 }
 
 -- a dial for another vBucket is not for this one

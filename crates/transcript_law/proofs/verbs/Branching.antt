@@ -19,7 +19,7 @@ use Rattle.{vb_calls.specs.Flushes.{wrote_of}, vb_calls.specs.State.{first_log},
 use Rattle.node_world.specs.Nodes.{vb_told as said_of_vb}
 use Rattle.transcript_law.specs.Chronicles.{DiskKnown, after_made, after_noted, blank_disk}
 use Rattle.transcript_law.specs.Chronicles.{with_disk as told_disk_at}
-use Rattle.vb_calls.specs.Shelves.{Append, DiskFailed, Fate, Shelf, Stood, WasClosed, ask_at, shelf_step, blank_shelf, with_shelf_at}
+use Rattle.vb_calls.specs.Shelves.{Append, DiskFailed, Fate, Idle, Shelf, Stood, WasClosed, Written, ask_at, shelf_step, blank_shelf, with_shelf_at}
 use Rattle.vb_types.specs.declared.journal.Record.TheVariants as noted
 use Rattle.transcript_law.proofs.invariant.Bounded.{Weighs}
 pub use Rattle.transcript_law.proofs.verbs.Branched.{branch_row, branch_there, new_fits}
@@ -50,6 +50,8 @@ new_disk n role uuid = record {
   floor = omega arith;
   cas = omega arith;
   late_cas = λ r e. cc;
+  ended = refl;
+  written = λ seq e. let z : Idle ≡ Written seq = e in cc;
 }
 
 -- a disk that may be there, and is blank

@@ -1,13 +1,13 @@
 -- the lines `take`, `done` and `stat`
-use Rattle.std.specs.Prelude.{◌≡◌, ◌+◌, ◌<◌, ◌≤◌, ◌∷◌, ◌++◌, ◌&&◌, if◌then◌else◌}
-use Rattle.transcript_law.proofs.Words.{ℕ, after_lines, All, Bool, true, false, List, [], length, refl, ap, sym, ◌∙◌, subst, arith, inl, Option, Some, None, eq-eqb, ne_eqb, Answer, Cause, Event, Plain, States, with_vb_at, VbCall, Span, after_job, PlainNode, PlainWorld}
-use Rattle.transcript_law.proofs.Words.{with_node_at, vb_in, shelf_in, Chronicle, Cluster, Move, happens, keeps, Sound, StaysSound, Position, Change, last_seq, Covers, IsIn, Rises, on_node, admin_line, AdminCall, call_at, Outcome, ground, rises_in, rises_le, upto, above, Own, Received}
-use Rattle.transcript_law.proofs.Words.{VbAnswer, VbReply, newest_branch, quiet_reply, flat_map, is_some, length-append, list_any, with_states}
+use Rattle.std.specs.Prelude.{◌≡◌, ◌<◌, ◌≤◌, ◌∷◌, ◌++◌, ◌&&◌, if◌then◌else◌}
+use Rattle.transcript_law.proofs.Words.{ℕ, after_lines, All, Bool, true, false, List, [], length, refl, ap, sym, ◌∙◌, subst, arith, Option, Some, None, eq-eqb, ne_eqb, Answer, Cause, Event, Plain, States, with_vb_at, VbCall, Span, after_job, PlainNode, PlainWorld}
+use Rattle.transcript_law.proofs.Words.{with_node_at, vb_in, shelf_in, Chronicle, Cluster, Move, happens, keeps, Sound, StaysSound, Position, Change, last_seq, Covers, IsIn, Rises, on_node, admin_line, AdminCall, call_at, Outcome, ground, rises_in, rises_le, upto, above}
+use Rattle.transcript_law.proofs.Words.{VbAnswer, VbReply, newest_branch, quiet_reply, is_some, with_states}
 use Rattle.transcript_law.proofs.{invariant.Agreement.{AgreesAt, AgreesIn, Agrees, DiskIsIf, GoesOn, VbAgrees, all_rise, idle, shelf_of, top, vb_of}, disks.Appending.{Rewritten, row_there, told_disk, unwritten}, disks.Disks.{FlushIs, ShelfIs, parts_of}, disks.Flushed.{flush_came}}
 use Rattle.transcript_law.proofs.{invariant.JobSteps.{ask_on, call_on, put_found, put_over, same_shelf, shelf_found}, links.Marking.{covers_more}, verbs.NodeLines.{admin_by, agrees_same, as_told, node_changed, node_grown, shelves_again, on_node_by, put_same, refused_on, node_of_same_vbs, written_agrees, written_rests}}
 use Rattle.transcript_law.proofs.{invariant.OneLink.{disk_here, disk_there}, invariant.Seats.{seat, seats_apart}, invariant.Tables.{at_here, at_there}, links.Turning.{put_itself}, invariant.Wholes.{IsSpanIn}}
-use Rattle.{branch_model.specs.Journals.{place_of}, cluster_model.specs.Clusters.{Disk, Fits, IsSpot}, node_core.specs.Flushing.{FlushResult, flush_at, flush_result}, node_world.specs.Nodes.{flush_line, with_kept, with_posts, written}}
-use Rattle.{transcript_law.specs.Chronicles.{DiskKnown, Flushing, after_batch, after_done, known_log, known_batch, with_disk}, transcript_law.specs.Lawfulness.{LawfulBatch}, std.specs.Prelude.{max, nat_le, nat_lt}, std.specs.Str.{bytes_eq}}
+use Rattle.{branch_model.specs.Journals.{place_of, points}, cluster_model.proofs.Backfilling.{higher_end}, cluster_model.specs.Clusters.{Disk, Fits, IsSpot}, node_core.specs.Flushing.{FlushResult, flush_at, flush_result}, node_world.specs.Nodes.{flush_line, with_kept, with_posts, written}}
+use Rattle.{transcript_law.specs.Chronicles.{DiskKnown, Flushing, after_batch, after_done, known_log, known_batch, with_disk}, transcript_law.specs.Lawfulness.{LawfulBatch}, std.specs.Prelude.{max, nat_le, nat_lt}}
 use Rattle.node_core.specs.Calls.{own_lines}
 use Rattle.transcript_law.proofs.answers.{Claims.{ClaimAt, call_claims, changes_claim}, Committed.{AllHowTold, all_claimed, all_told}, Explained.{explained}, Calm.{OfDurable, durable_settled, durable_told}}
 use Rattle.vbucket.proofs.RowIs.{Saves}
@@ -18,14 +18,14 @@ use Rattle.vb_calls.specs.Flushes.{batch_of_reply, finish_job, take_job, taken_j
 use Rattle.vb_calls.specs.Flushing.{batch_of, flush_from, unflushed_span}
 use Rattle.vb_calls.specs.Jobs.{Ended, Call as Asks}
 use Rattle.vb_calls.specs.Shelves.{Flush, Idle, Out, Written, Keep, Shelf, Shelves, with_shelf_at}
-use Rattle.vb_calls.specs.Spans.{all_spans, key_lasts, live_in, live_of, stretch}
-use Rattle.vb_calls.specs.declared.{journals.Flushed.{Flushed}, span.Origin.{Origin}}
+use Rattle.vb_calls.specs.Spans.{all_spans, stretch}
+use Rattle.vb_calls.specs.declared.journals.Flushed.{Flushed}
 use Rattle.vb_types.specs.declared.journal.{Batch.{Batch}, FlushPart.{FlushPart}}
 use Rattle.vb_types.specs.declared.journal.FlushPart.TheVariants as part
-use Rattle.vbucket.specs.{Laws.{AllSpans, Follow}, Wholes.{BatchesAreWhole}}
+use Rattle.vbucket.specs.Wholes.{BatchesAreWhole}
 use Rattle.branch_model.proofs.{Images.{plain_stands}, Lasts.{kept_in_filter, rises_filter}}
 use Rattle.std.proofs.lemmas.Bool.{and_from, le-leb, lt-ltb}
-use Rattle.transcript_law.proofs.{disks.Batches.{at_end, fewer, saved_sound, some_items, span_found}, invariant.Bounded.{weighs_upto}}
+use Rattle.transcript_law.proofs.{disks.Batches.{at_end, fewer, saved_sound, some_items, span_found, spans_filled}, invariant.Bounded.{weighs_upto}}
 use Rattle.transcript_law.proofs.invariant.Owing.{later_same}
 
 -- a vBucket that is there, at a node that is running, and its journal
@@ -207,6 +207,8 @@ module _ (stays : StaysSound) (steady : Steady) (wholes : BatchesAreWhole) (w : 
       floor = before.floor;
       cas = before.cas;
       late_cas = before.late_cas;
+      ended = before.ended;
+      written = λ seq e. let z : Out b ≡ Written seq = e in cc;
     }
 
     agrees : Agrees (with_node_at w n (with_kept node (states', with_shelf_at sh0 v shelf'))) (after_batch r n v b.position)
@@ -352,6 +354,8 @@ module _ (stays : StaysSound) (steady : Steady) (wholes : BatchesAreWhole) (w : 
           floor = finishing.floor;
           cas = finishing.cas;
           late_cas = finishing.late_cas;
+          ended = higher_end vb.saved seq (points (c.disks done_k).book) finishing.ended (finishing.written seq written_now);
+          written = λ m e. let z : Idle ≡ Written m = e in cc;
         };
       }),
     )
@@ -449,32 +453,6 @@ module _ (stays : StaysSound) (steady : Steady) (wholes : BatchesAreWhole) (w : 
   done_node_goes calm = steps_go (λ said. after_done r n v said) w r n v part.Done (λ why. refl) a (λ t. done_there stays steady wholes w r n v t (there_ranged t) calm)
 
 -- `stat`
-
--- where there are changes, one is live
-lasts_some : (xs : List Change) (c : Change) → IsIn c xs → 0 < length (key_lasts xs)
-lasts_some [] c i = absurd i
-lasts_some (x ∷ []) c i = omega arith
-lasts_some (x ∷ y ∷ ys) c i = by (list_any (λ d. bytes_eq d.key x.key) (y ∷ ys)) (lasts_some (y ∷ ys) y (inl refl))
-  where
-    by : (b : Bool) → 0 < length (key_lasts (y ∷ ys)) → 0 < length (if b then key_lasts (y ∷ ys) else x ∷ key_lasts (y ∷ ys))
-    by true l = l
-    by false l = omega arith
-
-live_some : (o : Origin) (xs : List Change) (c : Change) → IsIn c xs → 0 < length (live_of o xs)
-live_some Own xs c i = lasts_some xs c i
-live_some (Received ss se) [] c i = absurd i
-live_some (Received ss se) (x ∷ xs) c i = omega arith
-
--- no span is empty
-spans_filled : (low high : ℕ) (h : List Change) (ws : List Span) → Follow low ws high → AllSpans h ws → length ws ≤ length (flat_map (λ x. live_in x h) ws)
-spans_filled low high h [] f t = omega arith
-spans_filled low high h (x ∷ xs) f t =
-    let rest = spans_filled x.last high h xs f.2 t.1 in
-    let above_is : x.above ≡ low = f.0 in let up : low < x.last = f.1 in let (last, there, ends) = t.0.ends in let level : last.seq ≡ x.last = ends in
-    let some = live_some x.origin (stretch x.above x.last h) last (kept_in_filter (λ d. nat_lt x.above d.seq && nat_le d.seq x.last) last h there
-    (and_from (nat_lt x.above last.seq) (nat_le last.seq x.last) (lt-ltb x.above last.seq (omega arith)) (le-leb last.seq x.last (omega arith)))) in
-    let all : length (live_in x h ++ flat_map (λ x. live_in x h) xs) ≡ length (live_in x h) + length (flat_map (λ x. live_in x h) xs) = length-append (live_in x h) (flat_map (λ x. live_in x h) xs) in
-    omega arith
 
 pub stat_goes : (w : PlainWorld) (r : Chronicle) (n v : ℕ) (node : PlainNode) → Agrees w r → w.nodes n ≡ Some node → is_some node.off ≡ false
     → GoesOn r as_told (with_node_at w n (admin_line n v AdminCall.Stat node).0, (admin_line n v AdminCall.Stat node).1)
