@@ -33,6 +33,7 @@ may_roll_is v named (answer.Found doc) = refl
 may_roll_is v named (answer.Stored uuid seq cas) = refl
 may_roll_is v named (answer.Prepared seq cas) = refl
 may_roll_is v named (answer.Asked said log high) = refl
+may_roll_is v named (answer.Opened log high from) = refl
 may_roll_is v named (answer.Placed place) = refl
 may_roll_is v named (answer.Taken snapshot) = refl
 may_roll_is v named (answer.Rows batch) = refl

@@ -10,11 +10,11 @@ use Rattle.vb_calls.specs.declared.calls.VbCall.TheVariants.{Get, Store, Durable
 use Rattle.vb_calls.specs.declared.calls.VbAnswer.{VbAnswer}
 use Rattle.vb_calls.specs.declared.calls.VbAnswer.TheVariants as answer
 
--- this may be said to a request for a stream of this number: under 0 none is opened
-abbrev pub MayAnswer : ℕ → AskAnswer → Type 0
-MayAnswer id ask_answer.Go = 0 < id
-MayAnswer id (ask_answer.Roll to) = Unit {0}
-MayAnswer id (ask_answer.Refuse code) = Unit {0}
+-- this is said to a request that opens no stream
+abbrev pub IsDenied : AskAnswer → Type 0
+IsDenied ask_answer.Go = ⊥
+IsDenied (ask_answer.Roll to) = Unit {0}
+IsDenied (ask_answer.Refuse code) = Unit {0}
 
 -- this call may have this answer
 abbrev pub HasForm : VbCall → VbAnswer → Type 0
@@ -32,7 +32,8 @@ HasForm (Tick clock) answer.Done = Unit {0}
 HasForm (Tick clock) (answer.Status st) = Unit {0}
 HasForm Due (answer.Dues seq saved) = Unit {0}
 HasForm Due (answer.Status st) = Unit {0}
-HasForm (OpenStream id ask sync) (answer.Asked said log high) = MayAnswer id said × (length log ≤ log_limit)
+HasForm (OpenStream id ask sync) (answer.Asked said log high) = IsDenied said × (length log ≤ log_limit)
+HasForm (OpenStream id ask sync) (answer.Opened log high from) = (0 < id) × (length log ≤ log_limit)
 HasForm (Place id) (answer.Placed place) = Unit {0}
 HasForm (Place id) answer.Absent = Unit {0}
 HasForm (Take id) (answer.Taken snapshot) = Unit {0}

@@ -16,7 +16,7 @@ use Rattle.vb_types.specs.declared.stream.Verdict.{Verdict}
 use Rattle.vb_types.specs.declared.stream.Verdict.TheVariants.{Continue, Roll}
 use Rattle.vb_types.specs.Histories.{is_visible, plain}
 use Rattle.branch_model.specs.Histories.{last_seq}
-use Rattle.branch_model.specs.Requests.{effective_ss, effective_se, rule}
+use Rattle.branch_model.specs.Requests.{effective_se, rule}
 use Rattle.vb_calls.specs.declared.calls.VbAnswer.TheVariants as answer
 use Rattle.vb_calls.specs.declared.calls.VbReply.{VbReply}
 use Rattle.vb_calls.specs.declared.stream.Stream.{Stream}
@@ -54,17 +54,34 @@ memory_from vb = vb.floor
 abbrev pub is_in_memory : Plain → ℕ → Bool
 is_in_memory vb place = nat_le (memory_from vb) place
 
+-- where the changes of a stream come from that has no cursor: from memory, where that serves, and else from there once more is saved
+abbrev pub source_by : Bool → Place
+source_by true = Memory
+source_by false = WaitSaved
+
+-- by where it stands
+abbrev pub source_of : Plain → Stream → Place
+source_of vb s = source_by (is_in_memory vb s.place)
+
+-- a stream that is asked for, at its request's start and without a cursor
+abbrev pub asked_stream : ℕ → StreamAsk → Bool → Stream
+asked_stream id ask sync = record { id = id; ask = ask; sync = sync; place = ask.start; cursor = false; taken = false }
+
 -- a stream that starts at its request's start: it has a cursor there, if that is in memory
 abbrev pub new_stream : Plain → ℕ → StreamAsk → Bool → Stream
 new_stream vb id ask sync = record { id = id; ask = ask; sync = sync; place = ask.start; cursor = is_in_memory vb ask.start; taken = false }
 
--- what is said to a request, with the failover log and the last seqno
+-- what is said to a request that opens no stream, with the failover log and the last seqno
 abbrev pub ask_reply : Plain → AskAnswer → VbReply
 ask_reply vb said = quiet_reply (answer.Asked said vb.log vb.position.at)
 
+-- what is said of a stream that is opened, with where its changes come from
+abbrev pub opened_reply : Plain → Place → VbReply
+opened_reply vb from = quiet_reply (answer.Opened vb.log vb.position.at from)
+
 -- a request that the log lets continue opens a stream; one that has to roll back changes nothing
 abbrev pub judged_open : Verdict → Plain → ℕ → StreamAsk → Bool → Plain × VbReply
-judged_open Continue vb id ask sync = (record vb { streams = vb.streams ++ new_stream vb id ask sync ∷ [] }, ask_reply vb ask_answer.Go)
+judged_open Continue vb id ask sync = (record vb { streams = vb.streams ++ new_stream vb id ask sync ∷ [] }, opened_reply vb (source_of vb (asked_stream id ask sync)))
 judged_open (Roll to) vb id ask sync = (vb, ask_reply vb (ask_answer.Roll to))
 
 -- a request that is refused changes nothing
@@ -119,17 +136,13 @@ place_row vb id = place_from (stream_at id vb.streams) vb
 abbrev pub is_seen : Bool → Act → Bool
 is_seen sync a = sync || is_visible a
 
--- the snapshot's end that the stream's request means, until a first snapshot has reached it
+-- the snapshot's end that the stream's request means, until a snapshot has reached it
 abbrev pub need_of : Stream → ℕ
 need_of s = if s.taken then 0 else effective_se s.ask.start s.ask.ss s.ask.se
 
--- where a stream's next snapshot starts: a first one where the request means
-abbrev pub start_of : Stream → ℕ
-start_of s = if s.taken then s.place else effective_ss s.ask.start s.ask.ss s.ask.se
-
--- commits are sent as sets and removals on a stream that is not sync, and in a first snapshot that starts below the request's start
-abbrev pub is_plain_next : Stream → Bool
-is_plain_next s = not s.sync || (not s.taken && nat_lt (effective_ss s.ask.start s.ask.ss s.ask.se) s.ask.start)
+-- a stream that is not sync is sent commits as sets and removals
+abbrev pub is_plain : Stream → Bool
+is_plain s = not s.sync
 
 -- a change, or the set or removal that a commit stands as
 abbrev pub sent_as : Bool → Change → Change
@@ -137,7 +150,7 @@ sent_as as_plain c = if as_plain then plain c else c
 
 -- what a stream is sent of a span of h: the live changes above its place that it sees
 abbrev pub span_items : Stream → List Change → Span → List Change
-span_items s h w = map (sent_as (is_plain_next s)) (filter (λ c. nat_lt s.place c.seq && is_seen s.sync c.act) (live_in w h))
+span_items s h w = map (sent_as (is_plain s)) (filter (λ c. nat_lt s.place c.seq && is_seen s.sync c.act) (live_in w h))
 
 -- a change that stands in a span before these later changes is live in it
 abbrev pub is_live_before : Span → Change → List Change → Bool
@@ -168,9 +181,9 @@ may_end s ws h end = is_end_for s ws end && has_any (items_to s ws h end)
 abbrev pub end_span : Stream → List Span → List Change → Option Span
 end_span s ws h = find (λ w. may_end s ws h w.last) ws
 
--- a snapshot ends at its last change
+-- a snapshot starts at the stream's place, and ends at its last change
 abbrev pub snapshot_of : Stream → List Change → Snapshot
-snapshot_of s items = record { start = start_of s; end = last_seq s.place items; disk = false; items = items }
+snapshot_of s items = record { start = s.place; end = last_seq s.place items; disk = false; items = items }
 
 -- the stream of this number after a snapshot up to `end`, to which its cursor goes with it
 abbrev pub moved_on : ℕ → ℕ → Stream → Stream

@@ -170,13 +170,19 @@ pub enum VbAnswer {
         seq: u64,
         cas: u64,
     },
-    /// What is said to a request for a stream: that it was opened, that its consumer has to roll back
-    /// to a seqno or below it first, or why it is refused; and, whatever is said, the failover log,
-    /// the newest entry first, and the last seqno that the vBucket has.
+    /// What is said to a request for a stream that opens none: that its consumer has to roll back to a
+    /// seqno or below it first, or why it is refused; and, whatever is said, the failover log, the
+    /// newest entry first, and the last seqno that the vBucket has.
     Asked {
         said: AskAnswer,
         log: Listed<LogEntry>,
         high: u64,
+    },
+    /// A stream was opened: the failover log, the last seqno, and where its next changes come from.
+    Opened {
+        log: Listed<LogEntry>,
+        high: u64,
+        place: Place,
     },
     /// Where the stream's next changes come from.
     Placed(Place),

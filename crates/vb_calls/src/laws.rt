@@ -18,7 +18,8 @@ pub fn some_calls_take_no_memory()
 {}
 
 /// Closing a stream, taking its cursor away and a seal are answered by a flag, a trim by a number, and
-/// what is due by two numbers or a status; and by nothing else, whoever answers.
+/// what is due by two numbers or a status. A request for a stream is answered by what opens one, under
+/// a number that is not 0, or by why none is opened. And all of these by nothing else, whoever answers.
 pub fn answers_have_forms()
     ensures { AreAnsweredSo }
 {}

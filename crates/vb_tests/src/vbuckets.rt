@@ -11,7 +11,7 @@ use calls::{At, Do, Step, Talk, Told, first_other, first_other_of};
 use std::test::Fail;
 use vb_types::{AskAnswer, Op, Place, Status, StreamAsk};
 
-const GO: Told = Told::Asked(AskAnswer::Go, 1, 1);
+const GO: Told = Told::Opened(1, 1, Place::Memory);
 
 // KeyEexists and Erange.
 const EXISTS: Told = Told::Asked(AskAnswer::Refuse(0x02), 1, 1);
@@ -59,7 +59,7 @@ const OPENED: [Step; 16] = [
 const TAKEN: [Step; 8] = [
     (Do::Store(Op::Set, 1), Told::Stored(1, 1)),
     (Do::Store(Op::Set, 1), Told::Stored(2, 2)),
-    (Do::Open(3, 0, 0), Told::Asked(AskAnswer::Go, 1, 2)),
+    (Do::Open(3, 0, 0), Told::Opened(1, 2, Place::Memory)),
     (Do::Take(3), Told::Taken(0, 2, 1)),
     (Do::Take(3), Told::Nothing),
     (Do::Store(Op::Delete, 1), Told::Stored(3, 3)),
@@ -131,7 +131,7 @@ const FLUSHED: [Step; 9] = [
     (Do::FlushTake, Told::Nothing),
     (Do::Store(Op::Delete, 1), Told::Stored(3, 3)),
     (Do::FlushTake, Told::Batch(3, 3, 3, 1)),
-    (Do::Open(3, 0, 0), Told::Asked(AskAnswer::Go, 1, 3)),
+    (Do::Open(3, 0, 0), Told::Opened(1, 3, Place::Memory)),
     (Do::Stat, Told::Stat(1, 1, 2, 0, 3)),
 ];
 
@@ -149,7 +149,7 @@ const FLUSHED_INSIDE: [Step; 15] = [
     (Do::Show, Told::Shown(1, 1, 1)),
     (Do::FlushTake, Told::Nothing),
     (Do::Promote(22), Told::Branch(22, Some(5), 1, 1)),
-    (Do::Open(3, 0, 0), Told::Asked(AskAnswer::Go, 2, 1)),
+    (Do::Open(3, 0, 0), Told::Opened(2, 1, Place::WaitSaved)),
     (Do::Place(3), Told::Placed(Place::WaitSaved)),
     (Do::Stat, Told::Stat(0, 0, 1, 1, 1)),
 ];

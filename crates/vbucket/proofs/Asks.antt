@@ -1,29 +1,26 @@
 -- what a request for a stream is told
-use Rattle.std.proofs.Common.{◌≡◌, ◌≢◌, ℕ, ◌≤◌, Bool, true, false, cond, List, [], ◌∷◌, refl, sym, ap, subst, ◌∙◌, inl, inr, ⊎_elim, arith}
+use Rattle.std.proofs.Common.{◌≡◌, ◌≢◌, ℕ, ◌≤◌, Bool, true, false, cond, List, [], ◌∷◌, ◌++◌, refl, sym, ap, subst, ◌∙◌, inl, inr, ⊎_elim, arith}
 use Rattle.std.specs.Prelude.{◌⊎◌, Option, Some, None, if◌then◌else◌, nat_le, ◌&&◌, ◌==◌}
 use Rattle.std.proofs.lemmas.Bool.Decides.{nat_tests}
-use Rattle.vb_types.specs.declared.stream.AskAnswer.{AskAnswer}
 use Rattle.vb_types.specs.declared.stream.AskAnswer.TheVariants as ask_answer
 use Rattle.vb_types.specs.declared.status.Status.{Status}
 use Rattle.vb_types.specs.declared.status.Status.TheVariants as status
+use Rattle.vb_types.specs.declared.stream.Place.TheVariants.{Memory}
 use Rattle.vb_types.specs.declared.stream.StreamAsk.{StreamAsk}
 use Rattle.vb_types.specs.declared.stream.Verdict.{Verdict}
 use Rattle.vb_types.specs.declared.stream.Verdict.TheVariants.{Continue, Roll}
 use Rattle.vb_types.specs.Statuses.{status_code}
 use Rattle.branch_model.specs.Requests.{rule}
 use Rattle.vb_calls.specs.declared.calls.VbAnswer.TheVariants as answer
+use Rattle.vb_calls.specs.declared.calls.VbCall.TheVariants as call
 use Rattle.vb_calls.specs.declared.stream.Stream.{Stream}
 use Rattle.vb_types.specs.declared.role.Role.{Role}
 use Rattle.vb_types.specs.declared.role.Role.TheVariants as role
-use Rattle.vb_calls.specs.State.{Plain, is_active}
-use Rattle.vb_calls.specs.Streams.{first_reason, id_refusal, is_in_memory, is_ranged, memory_from, judged_open, open_outcome, open_refusal, stream_at}
-use Rattle.vbucket.specs.Laws.{is_denial}
-use Rattle.vbucket.proofs.Parts.{most_of, most_tested}
-use Rattle.vbucket.specs.Asks.{AnswersHaveLog, IsOpen, IsTaken, IsRanged, IsHeard, OpensAs, OpensExactly}
-
-judged : (v : Verdict) (vb : Plain) (id : ℕ) (ask : StreamAsk) (sync : Bool) → (said : AskAnswer) × ((judged_open v vb id ask sync).1.answer ≡ answer.Asked said vb.log vb.position.at)
-judged Continue vb id ask sync = (ask_answer.Go, refl)
-judged (Roll to) vb id ask sync = (ask_answer.Roll to, refl)
+use Rattle.vb_calls.specs.State.{Plain, is_active, quiet_reply}
+use Rattle.vb_calls.specs.Plain.{plain_step}
+use Rattle.vb_calls.specs.Streams.{asked_stream, first_reason, id_refusal, is_in_memory, is_ranged, judged_open, new_stream, open_outcome, open_refusal, place_from, place_reply, placed_by, source_by, source_of, stream_at}
+use Rattle.vbucket.specs.Asks.{AnswersHaveLog, HasLog, IsOpen, IsTaken, IsRanged, IsHeard, OpensAs, OpensExactly, with_asked}
+use Rattle.vbucket.proofs.Feeding.{at_pushed, cursored, last_changed, own}
 
 zero : (id : ℕ) → id ≡ 0 → (id == 0) ≡ true
 zero id e = grind (arith, nat_tests)
@@ -40,12 +37,17 @@ refused false o rest e n = cc
 pub asks_told : AnswersHaveLog
 asks_told vb id ask sync = by (open_refusal vb id ask) refl
   where
-    by : (why : Option Status) → open_refusal vb id ask ≡ why
-        → (said : AskAnswer) × ((open_outcome why vb id ask sync).1.answer ≡ answer.Asked said vb.log vb.position.at) × (id ≡ 0 → is_denial said ≡ true)
-    by (Some st) e = (ask_answer.Refuse (status_code st), refl, λ z. refl)
-    by None e =
-        let k = judged (rule vb.log vb.position.at ask) vb id ask sync in
-        (k.0, k.1, λ z. absurd (refused (is_active vb.role) (id_refusal id (stream_at id vb.streams)) (if is_ranged ask then None else Some status.Erange) (no_id id (stream_at id vb.streams) z) e))
+    judged : (v : Verdict) → open_refusal vb id ask ≡ None → HasLog vb id (judged_open v vb id ask sync)
+    judged Continue e = inl (
+      source_of vb (asked_stream id ask sync),
+      refl,
+      λ z. refused (is_active vb.role) (id_refusal id (stream_at id vb.streams)) (if is_ranged ask then None else Some status.Erange) (no_id id (stream_at id vb.streams) z) e,
+    )
+    judged (Roll to) e = inr (ask_answer.Roll to, refl, λ q. cc)
+
+    by : (why : Option Status) → open_refusal vb id ask ≡ why → HasLog vb id (open_outcome why vb id ask sync)
+    by (Some st) e = inr (ask_answer.Refuse (status_code st), refl, λ q. cc)
+    by None e = judged (rule vb.log vb.position.at ask) e
 
 -- the reasons, in order
 
@@ -118,22 +120,39 @@ module _ (vb : Plain) (id : ℕ) (ask : StreamAsk) where
       by false e = inl (refl, not_role vb.role e)
 
   module _ (sync : Bool) where
+    is_free : (o : Option Stream) → stream_at id vb.streams ≡ o → (IsTaken vb id → ⊥) → stream_at id vb.streams ≡ None
+    is_free None e free = e
+    is_free (Some s) e free = absurd (free (inr (is_open id vb.streams s e)))
+
+    -- a stream that is opened is where it would be placed from the start of its request
+    opens_as_placed : stream_at id vb.streams ≡ None → plain_step (with_asked vb id ask sync) (call.Place id) ≡ (record vb { streams = vb.streams ++ new_stream vb id ask sync ∷ [] }, place_reply (source_of vb (asked_stream id ask sync)))
+    opens_as_placed free =
+        ap (λ o. place_from o (with_asked vb id ask sync)) (at_pushed id (asked_stream id ask sync) vb.streams free ∙ ap (λ b. if b then Some (asked_stream id ask sync) else stream_at id vb.streams) (own id))
+        ∙ by (is_in_memory vb ask.start)
+      where
+        by : (b : Bool) → placed_by false b (asked_stream id ask sync) (with_asked vb id ask sync)
+            ≡ (record vb { streams = vb.streams ++ record { id = id; ask = ask; sync = sync; place = ask.start; cursor = b; taken = false } ∷ [] }, place_reply (source_by b))
+        by true = ap (λ ss. (record vb { streams = ss }, place_reply Memory)) (last_changed id cursored (λ x. refl) (asked_stream id ask sync) vb.streams refl free)
+        by false = refl
+
     heard : (v : Verdict) → rule vb.log vb.position.at ask ≡ v → IsHeard vb id ask → OpensAs vb id ask sync (judged_open v vb id ask sync)
     heard Continue e h = record {
       foreign = (λ q. cc, λ n. absurd (n h.0));
       taken = (λ q. cc, λ t. absurd (h.1 t.1));
       outside = (λ q. cc, λ t. absurd (t.2 h.2));
       back = λ to. (λ q. cc, λ t. let z : Continue ≡ Roll to = sym e ∙ t.1 in cc);
-      go = (λ q. (h, e), λ t. refl);
-      opens = λ q. (is_in_memory vb ask.start, refl, (λ t. most_of (memory_from vb) ask.start t, λ l. most_tested (memory_from vb) ask.start l));
+      go = (λ q. (h, e), λ t. (source_of vb (asked_stream id ask sync), refl));
+      opens = λ from q.
+          let k : source_of vb (asked_stream id ask sync) ≡ from = cc in
+          subst (λ place. plain_step (with_asked vb id ask sync) (call.Place id) ≡ (record vb { streams = vb.streams ++ new_stream vb id ask sync ∷ [] }, quiet_reply (answer.Placed place))) k (opens_as_placed (is_free (stream_at id vb.streams) refl h.1));
     }
     heard (Roll n) e h = record {
       foreign = (λ q. cc, λ n. absurd (n h.0));
       taken = (λ q. cc, λ t. absurd (h.1 t.1));
       outside = (λ q. cc, λ t. absurd (t.2 h.2));
       back = λ to. (λ q. (h, (let k : n ≡ to = cc in e ∙ ap Roll k)), λ t. let z : Roll n ≡ Roll to = sym e ∙ t.1 in let k : n ≡ to = cc in ap (λ m. answer.Asked (ask_answer.Roll m) vb.log vb.position.at) k);
-      go = (λ q. cc, λ t. let z : Roll n ≡ Continue = sym e ∙ t.1 in cc);
-      opens = λ q. cc;
+      go = (λ q. let z = q.1 in cc, λ t. let z : Roll n ≡ Continue = sym e ∙ t.1 in cc);
+      opens = λ from q. cc;
     }
 
     abbrev Answers : Option Status → Type 0
@@ -145,8 +164,8 @@ module _ (vb : Plain) (id : ℕ) (ask : StreamAsk) where
       taken = (λ q. cc, λ t. absurd (n t.0));
       outside = (λ q. cc, λ t. absurd (n t.0));
       back = λ to. (λ q. cc, λ t. absurd (n t.0.0));
-      go = (λ q. cc, λ t. absurd (n t.0.0));
-      opens = λ q. cc;
+      go = (λ q. let z = q.1 in cc, λ t. absurd (n t.0.0));
+      opens = λ from q. cc;
     }
 
     taken : (vb.role ≡ role.Active) × IsTaken vb id → Answers (Some status.KeyEexists)
@@ -155,8 +174,8 @@ module _ (vb : Plain) (id : ℕ) (ask : StreamAsk) where
       taken = (λ q. k, λ t. refl);
       outside = (λ q. cc, λ t. absurd (t.1 k.1));
       back = λ to. (λ q. cc, λ t. absurd (t.0.1 k.1));
-      go = (λ q. cc, λ t. absurd (t.0.1 k.1));
-      opens = λ q. cc;
+      go = (λ q. let z = q.1 in cc, λ t. absurd (t.0.1 k.1));
+      opens = λ from q. cc;
     }
 
     outside : (vb.role ≡ role.Active) × (IsTaken vb id → ⊥) × (IsRanged ask → ⊥) → Answers (Some status.Erange)
@@ -165,8 +184,8 @@ module _ (vb : Plain) (id : ℕ) (ask : StreamAsk) where
       taken = (λ q. cc, λ t. absurd (k.1 t.1));
       outside = (λ q. k, λ t. refl);
       back = λ to. (λ q. cc, λ t. absurd (k.2 t.0.2));
-      go = (λ q. cc, λ t. absurd (k.2 t.0.2));
-      opens = λ q. cc;
+      go = (λ q. let z = q.1 in cc, λ t. absurd (k.2 t.0.2));
+      opens = λ from q. cc;
     }
 
     opens : (why : Option Status) → Stands vb id ask why → Answers why

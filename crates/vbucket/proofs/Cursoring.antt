@@ -4,7 +4,6 @@ use Rattle.std.specs.Prelude.{◌⊎◌, ◌+◌, ◌≤◌, ◌==◌, ◌&&◌,
 use Rattle.std.specs.List.{filter}
 use Rattle.std.specs.Option.{option_map}
 use Rattle.std.proofs.lemmas.Bool.Decides.{nat_tests}
-use Rattle.vb_types.specs.declared.stream.AskAnswer.TheVariants as ask_answer
 use Rattle.vb_types.specs.declared.stream.Place.TheVariants.{Memory}
 use Rattle.vb_types.specs.declared.stream.StreamAsk.{StreamAsk}
 use Rattle.vb_types.specs.declared.stream.Verdict.{Verdict}
@@ -23,11 +22,11 @@ use Rattle.vb_calls.specs.Roles.{stream_ids}
 use Rattle.vb_calls.specs.Settling.{also_resolved, and_settled}
 use Rattle.vb_calls.specs.Spans.{all_spans, is_whole}
 use Rattle.vb_calls.specs.State.{quiet_reply}
-use Rattle.vb_calls.specs.Streams.{given_cursor, has_any, is_in_memory, items_to, judged_open, memory_from, moved_on, need_of, new_stream, open_outcome, open_refusal, place_from, placed_by, snapshot_of, stream_at, without_cursor, without_stream}
+use Rattle.vb_calls.specs.Streams.{asked_stream, given_cursor, has_any, is_in_memory, items_to, judged_open, moved_on, need_of, new_stream, open_outcome, open_refusal, place_from, placed_by, snapshot_of, source_by, source_of, stream_at, without_cursor, without_stream}
 use Rattle.vb_calls.specs.Trims.{has_cursor}
 use Rattle.vbucket.specs.Cursors.{CursorsExactly, HasCursor, HasNone, IsEnded, IsOpened, IsOver, IsPlaced}
-use Rattle.vbucket.proofs.Feeding.{at_changed, at_closed, at_pushed, changed, cursored, differ, flip, further, named, other_changed, own_changed, uncursored}
-use Rattle.vbucket.proofs.Parts.{below_of, both, found, most_of, most_tested}
+use Rattle.vbucket.proofs.Feeding.{at_changed, at_closed, at_pushed, changed, cursored, differ, flip, further, named, other_changed, own, own_changed, uncursored}
+use Rattle.vbucket.proofs.Parts.{below_of, both, found}
 use Rattle.vbucket.proofs.RowIs.{RowIs, StartIs, StreamsAre, Closes, Drops, Expires, Feeds, Inherits, Leads, Opens, Places, Settles, Streams, Turns, Yields, inheriting, leading, row_is}
 use Rattle.vbucket.proofs.Settling.{expires, settles}
 use Rattle.vbucket.proofs.Steadying.{may_open}
@@ -53,7 +52,7 @@ same a b e = grind (arith, nat_tests)
 -- what becomes of the stream of a number: it stays as it is, it is opened, is given a cursor, is fed, loses its cursor, or is over
 data Fate (vb : Plain) (c : VbCall) (q : ℕ) (after : Plain × VbReply) : Type 0 where
   Stays : stream_at q after.0.streams ≡ stream_at q vb.streams → (IsEnded q after.1.ended → ⊥) → Fate vb c q after
-  Opened : (ask : StreamAsk) (sync : Bool) → c ≡ call.OpenStream q ask sync → after.1.answer ≡ answer.Asked ask_answer.Go vb.log vb.position.at → stream_at q vb.streams ≡ None → stream_at q after.0.streams ≡ Some (new_stream vb q ask sync)
+  Opened : (ask : StreamAsk) (sync : Bool) → c ≡ call.OpenStream q ask sync → after.1.answer ≡ answer.Opened vb.log vb.position.at (source_of vb (asked_stream q ask sync)) → stream_at q vb.streams ≡ None → stream_at q after.0.streams ≡ Some (new_stream vb q ask sync)
       → after.1.ended ≡ [] → Fate vb c q after
   Given : (s : Stream) → c ≡ call.Place q → after.1.answer ≡ answer.Placed Memory → stream_at q vb.streams ≡ Some s → s.cursor ≡ false → stream_at q after.0.streams ≡ Some (cursored s) → after.1.ended ≡ [] → Fate vb c q after
   Fed : (s : Stream) (end : ℕ) → c ≡ call.Take q → stream_at q vb.streams ≡ Some s → s.cursor ≡ true → s.place < end → stream_at q after.0.streams ≡ Some (further end s) → after.1.ended ≡ [] → Fate vb c q after
@@ -86,7 +85,7 @@ module _ (vb : Plain) (q : ℕ) where
       none : stream_at id vb.streams ≡ None
       none = (may_open vb id ask e).1
 
-      by : (b : Bool) → (q == id) ≡ b → Left (call.OpenStream id ask sync) (vb.streams ++ new_stream vb id ask sync ∷ []) (answer.Asked ask_answer.Go vb.log vb.position.at)
+      by : (b : Bool) → (q == id) ≡ b → Left (call.OpenStream id ask sync) (vb.streams ++ new_stream vb id ask sync ∷ []) (answer.Opened vb.log vb.position.at (source_of vb (asked_stream id ask sync)))
       by true f =
           let k : id ≡ q = sym (same q id f) in
           Opened ask sync (ap (λ n. call.OpenStream n ask sync) k) refl (ap (λ n. stream_at n vb.streams) (sym k) ∙ none)
@@ -182,7 +181,7 @@ module _ (vb : Plain) (q : ℕ) where
   made c after place (Stays e n) none h = absurd (none place (h.0, sym e ∙ h.1, h.2, h.3))
   made c after place (Opened ask sync is said was now n) none h =
       let k : new_stream vb q ask sync ≡ h.0 = it (stream_at q after.0.streams) (new_stream vb q ask sync) h.0 now h.1 in
-      inr (ask, sync, is, said, most_of (memory_from vb) ask.start (ap (λ (x : Stream). x.cursor) k ∙ h.2), ap (λ (x : Stream). x.place) k ∙ h.3)
+      inr (ask, sync, is, said ∙ ap (λ b. answer.Opened vb.log vb.position.at (source_by b)) (ap (λ (x : Stream). x.cursor) k ∙ h.2), ap (λ (x : Stream). x.place) k ∙ h.3)
   made c after place (Given s is said was has now n) none h =
       let k : cursored s ≡ h.0 = it (stream_at q after.0.streams) (cursored s) h.0 now h.1 in
       inl (is, said, (s, was, ap (λ (x : Stream). x.place) k ∙ h.3))
@@ -219,9 +218,6 @@ module _ (vb : Plain) (q : ℕ) where
 
   goes_closed : HasNone (plain_step vb (call.CloseStream q)).0 q
   goes_closed place h = lacks (stream_at q (without_stream q vb.streams)) h.0 (at_closed q q vb.streams ∙ ap (λ b. if b then None else stream_at q vb.streams) (own q)) h.1
-    where
-      own : (n : ℕ) → (n == n) ≡ true
-      own n = grind (arith, nat_tests)
 
   goes_dropped : HasNone (plain_step vb (call.DropCursor q)).0 q
   goes_dropped place h = by (stream_at q vb.streams) refl
@@ -247,22 +243,23 @@ module _ (vb : Plain) (q : ℕ) where
       )
       by false false f e = cc
 
-  makes_opened : (ask : StreamAsk) (sync : Bool) → (plain_step vb (call.OpenStream q ask sync)).1.answer ≡ answer.Asked ask_answer.Go vb.log vb.position.at → memory_from vb ≤ ask.start → HasCursor (plain_step vb (call.OpenStream q ask sync)).0 q ask.start
-  makes_opened ask sync said l = by (open_refusal vb q ask) refl said
+  makes_opened : (ask : StreamAsk) (sync : Bool) → (plain_step vb (call.OpenStream q ask sync)).1.answer ≡ answer.Opened vb.log vb.position.at Memory → HasCursor (plain_step vb (call.OpenStream q ask sync)).0 q ask.start
+  makes_opened ask sync said = by (open_refusal vb q ask) refl said
     where
-      judged : (v : Verdict) → open_refusal vb q ask ≡ None → (judged_open v vb q ask sync).1.answer ≡ answer.Asked ask_answer.Go vb.log vb.position.at → HasCursor (judged_open v vb q ask sync).0 q ask.start
+      near : (b : Bool) → source_by b ≡ Memory → b ≡ true
+      near true e = refl
+      near false e = cc
+
+      judged : (v : Verdict) → open_refusal vb q ask ≡ None → (judged_open v vb q ask sync).1.answer ≡ answer.Opened vb.log vb.position.at Memory → HasCursor (judged_open v vb q ask sync).0 q ask.start
       judged Continue free e = (
         new_stream vb q ask sync,
         at_pushed q (new_stream vb q ask sync) vb.streams (may_open vb q ask free).1 ∙ ap (λ b. if b then Some (new_stream vb q ask sync) else stream_at q vb.streams) (own q),
-        most_tested (memory_from vb) ask.start l,
+        near (is_in_memory vb ask.start) (let k : source_by (is_in_memory vb ask.start) ≡ Memory = cc in k),
         refl,
       )
-        where
-          own : (n : ℕ) → (n == n) ≡ true
-          own n = grind (arith, nat_tests)
       judged (Roll to) free e = cc
 
-      by : (why : Option Status) → open_refusal vb q ask ≡ why → (open_outcome why vb q ask sync).1.answer ≡ answer.Asked ask_answer.Go vb.log vb.position.at → HasCursor (open_outcome why vb q ask sync).0 q ask.start
+      by : (why : Option Status) → open_refusal vb q ask ≡ why → (open_outcome why vb q ask sync).1.answer ≡ answer.Opened vb.log vb.position.at Memory → HasCursor (open_outcome why vb q ask sync).0 q ask.start
       by (Some st) e f = cc
       by None e f = judged (rule vb.log vb.position.at ask) e f
 
@@ -271,8 +268,8 @@ module _ (vb : Plain) (q : ℕ) where
       (λ (k : IsPlaced vb c q place (plain_step vb c).1.answer).
       subst (λ x. (plain_step vb x).1.answer ≡ answer.Placed Memory → HasCursor (plain_step vb x).0 q place) (sym k.0) (makes_placed place k.2.0 k.2.1 k.2.2) k.1)
       (λ (k : IsOpened vb c q place (plain_step vb c).1.answer).
-      subst (HasCursor (plain_step vb c).0 q) k.5
-      (subst (λ x. (plain_step vb x).1.answer ≡ answer.Asked ask_answer.Go vb.log vb.position.at → HasCursor (plain_step vb x).0 q k.0.start) (sym k.2) (λ said. makes_opened k.0 k.1 said k.4) k.3))
+      subst (HasCursor (plain_step vb c).0 q) k.4
+      (subst (λ x. (plain_step vb x).1.answer ≡ answer.Opened vb.log vb.position.at Memory → HasCursor (plain_step vb x).0 q k.0.start) (sym k.2) (makes_opened k.0 k.1) k.3))
       how
 
   goes : (c : VbCall) → IsOver c q (plain_step vb c).1 → HasNone (plain_step vb c).0 q

@@ -15,7 +15,7 @@ use Rattle.vb_calls.specs.declared.span.Origin.{Origin}
 use Rattle.vb_calls.specs.declared.span.Origin.TheVariants.{Own, Received}
 use Rattle.vb_calls.specs.Plain.{Plain}
 use Rattle.vb_calls.specs.Spans.{all_spans, is_whole, starts_below}
-use Rattle.vb_calls.specs.Streams.{stream_at, is_seen, is_plain_next, sent_as, items_to, has_any, may_end, end_span, need_of, snapshot_of, take_to, take_from}
+use Rattle.vb_calls.specs.Streams.{stream_at, is_seen, is_plain, sent_as, items_to, has_any, may_end, end_span, need_of, snapshot_of, take_to, take_from}
 use Rattle.vbucket.specs.Laws.{Sound, Follow}
 use Rattle.vbucket.specs.Takes.{EndsOne, CutsNone, MayEnd, EndsFirst, TakesAs, TakesExactly, IsSnapshot}
 use Rattle.vbucket.proofs.Asks.{is_open, not_open}
@@ -127,7 +127,7 @@ module _ (vb : Plain) (s : Stream) (sound : Sound vb) (w : Span) (a : Among w (a
       let at = vb.position.at in
       let z = last_above (touches slot) 0 w.last (upto vb.held w.last) c (rises_upto 0 at w.last vb.held (omega arith) (from_zero vb.floor at vb.held sound.rises)) (upto_in c vb.held w.last i m) t in
       let k : c.seq ≤ z.0.seq = z.2 in
-      any_tested items (sent_as (is_plain_next s) z.0)
+      any_tested items (sent_as (is_plain s) z.0)
       (item_there s ws vb.held vb.floor at sound.rises sound.spans sound.tidy w a l slot z.0 z.1 (omega arith) (f z.0 (last_in (touches slot) (upto vb.held w.last) z.0 z.1).1))
 
   of_some : ForIt → has_any items ≡ true

@@ -79,6 +79,9 @@ named id (x ∷ xs) s e = by (x.id == id) refl e (named id xs s)
 pub found_at : (id : ℕ) (streams : List Stream) (s : Stream) → stream_at id streams ≡ Some s → stream_at s.id streams ≡ Some s
 found_at id streams s e = ap (λ n. stream_at n streams) (named id streams s e) ∙ e
 
+pub own : (n : ℕ) → (n == n) ≡ true
+own n = grind (arith, nat_tests)
+
 -- the stream of a number is changed, but for its number
 module _ (id : ℕ) (g : Stream → Stream) (keeps : (s : Stream) → (g s).id ≡ s.id) where
   abbrev pub changed : Stream → Stream
@@ -121,6 +124,21 @@ module _ (id : ℕ) (g : Stream → Stream) (keeps : (s : Stream) → (g s).id �
     apart_changed xs a.2,
   )
 
+-- two different numbers
+pub differ : (x q : ℕ) (a b : Option Stream) (s : Stream) → cond (x == q) (Some s) a ≡ None → ((x == q) ≡ false) × (a ≡ None)
+differ x q a b s e = by (x == q) e
+  where
+    by : (t : Bool) → cond t (Some s) a ≡ None → (t ≡ false) × (a ≡ None)
+    by true e = cc
+    by false e = (refl, e)
+
+-- where the last one alone has the number
+pub last_changed : (id : ℕ) (g : Stream → Stream) (keeps : (s : Stream) → (g s).id ≡ s.id) (s : Stream) (streams : List Stream) → s.id ≡ id → stream_at id streams ≡ None → map (changed id g keeps) (streams ++ s ∷ []) ≡ streams ++ g s ∷ []
+last_changed id g keeps s [] is none = ap (λ b. (if b then g s else s) ∷ []) (ap (λ n. n == id) is ∙ own id)
+last_changed id g keeps s (x ∷ xs) is none =
+    let k = differ x.id id (stream_at id xs) None x none in
+    (λ i. (if k.0 i then g x else x) ∷ last_changed id g keeps s xs is k.1 i)
+
 -- the numbers of a stream more, and one less
 
 pub apart_found : (id : ℕ) (streams : List Stream) (s : Stream) → AreApart streams → stream_at id streams ≡ Some s → id ≢ 0
@@ -130,14 +148,6 @@ apart_found id (x ∷ xs) s a e = by (x.id == id) refl e (apart_found id xs s a.
     by : (b : Bool) → (x.id == id) ≡ b → cond b (Some x) (stream_at id xs) ≡ Some s → (stream_at id xs ≡ Some s → id ≢ 0) → id ≢ 0
     by true f e ih = let k : x.id ≡ id = grind (arith, nat_tests, f) in subst (λ n. n ≢ 0) k a.0
     by false f e ih = ih e
-
--- two different numbers
-pub differ : (x q : ℕ) (a b : Option Stream) (s : Stream) → cond (x == q) (Some s) a ≡ None → ((x == q) ≡ false) × (a ≡ None)
-differ x q a b s e = by (x == q) e
-  where
-    by : (t : Bool) → cond t (Some s) a ≡ None → (t ≡ false) × (a ≡ None)
-    by true e = cc
-    by false e = (refl, e)
 
 apart_pushed : (s : Stream) (streams : List Stream) → AreApart streams → s.id ≢ 0 → stream_at s.id streams ≡ None → AreApart (streams ++ s ∷ [])
 apart_pushed s [] a n e = (n, refl, tt)

@@ -10,7 +10,6 @@ use Rattle.vb_types.specs.declared.role.Role.{Role}
 use Rattle.vb_types.specs.declared.role.Role.TheVariants as role
 use Rattle.vb_types.specs.declared.status.Status.{Status}
 use Rattle.vb_types.specs.declared.status.Status.TheVariants as status
-use Rattle.vb_types.specs.declared.stream.AskAnswer.TheVariants as ask_answer
 use Rattle.vb_types.specs.declared.stream.Place.TheVariants.{Memory}
 use Rattle.vb_types.specs.declared.stream.StreamAsk.{StreamAsk}
 use Rattle.vb_types.specs.declared.stream.Verdict.{Verdict}
@@ -34,7 +33,7 @@ use Rattle.vb_calls.specs.Roles.{ending_reply, in_role, is_role, led, own_refusa
 use Rattle.vb_calls.specs.Settling.{also_resolved, and_settled}
 use Rattle.vb_calls.specs.Spans.{all_spans, with_seal}
 use Rattle.vb_calls.specs.State.{doc_at, get_reply, is_active, is_left, newest_branch, pending_of, quiet_reply, refusal_reply}
-use Rattle.vb_calls.specs.Streams.{without_stream, end_span, given_cursor, is_in_memory, items_to, judged_open, moved_on, new_stream, open_outcome, open_refusal, place_from, placed_by, snapshot_of, stream_at, take_from, take_to, without_cursor}
+use Rattle.vb_calls.specs.Streams.{without_stream, asked_stream, end_span, given_cursor, is_in_memory, items_to, judged_open, moved_on, new_stream, open_outcome, open_refusal, place_from, placed_by, snapshot_of, source_of, stream_at, take_from, take_to, without_cursor}
 use Rattle.vb_calls.specs.Trims.{has_cursor, trim_row}
 use Rattle.vb_calls.specs.Writes.{growth, new_cas, store_outcome, store_refusal, write_change}
 use Rattle.vbucket.specs.DurableLaws.{IsQuiet}
@@ -56,7 +55,7 @@ inheriting vb = (risen vb, ending_reply vb answer.Done)
 
 -- how a call leaves the streams: with a new one, with one that is given a cursor or fed a snapshot, with one that has lost its cursor, or without one
 pub data StreamsAre (vb : Plain) : VbCall → List Stream → VbAnswer → Type 0 where
-  Opens : (id : ℕ) (ask : StreamAsk) (sync : Bool) → open_refusal vb id ask ≡ None → StreamsAre vb (call.OpenStream id ask sync) (vb.streams ++ new_stream vb id ask sync ∷ []) (answer.Asked ask_answer.Go vb.log vb.position.at)
+  Opens : (id : ℕ) (ask : StreamAsk) (sync : Bool) → open_refusal vb id ask ≡ None → StreamsAre vb (call.OpenStream id ask sync) (vb.streams ++ new_stream vb id ask sync ∷ []) (answer.Opened vb.log vb.position.at (source_of vb (asked_stream id ask sync)))
   Places : (id : ℕ) (s : Stream) → stream_at id vb.streams ≡ Some s → s.cursor ≡ false → is_in_memory vb s.place ≡ true → StreamsAre vb (call.Place id) (map (given_cursor s.id) vb.streams) (answer.Placed Memory)
   Feeds : (id : ℕ) (s : Stream) (w : Span) → stream_at id vb.streams ≡ Some s → s.cursor ≡ true → end_span s (all_spans vb.spans) vb.held ≡ Some w
       → StreamsAre vb (call.Take id) (map (moved_on s.id w.last) vb.streams) (answer.Taken (snapshot_of s (items_to s (all_spans vb.spans) vb.held w.last)))

@@ -13,7 +13,7 @@ use Rattle.branch_model.proofs.Lists.{in_append}
 use Rattle.vb_calls.specs.declared.span.Span.{Span}
 use Rattle.vb_calls.specs.declared.stream.Stream.{Stream}
 use Rattle.vb_calls.specs.Spans.{Spans, all_spans, is_whole, live_in, stretch}
-use Rattle.vb_calls.specs.Streams.{end_span, has_any, is_end_for, is_plain_next, is_seen, items_to, may_end, need_of, sent_as, span_items}
+use Rattle.vb_calls.specs.Streams.{end_span, has_any, is_end_for, is_plain, is_seen, items_to, may_end, need_of, sent_as, span_items}
 use Rattle.ckpt_list.specs.Lists.{Ckpts, between, held_of, may_stop, stop_of}
 use Rattle.vbucket.specs.Kept.{sent_items}
 use Rattle.vbucket.specs.Laws.{Follow}
@@ -63,7 +63,7 @@ module _ (st : Stream) (h : List Change) (e : ℕ) where
   in_span w x i = let k = in_stretch w.above w.last h x (in_live w.origin (stretch w.above w.last h) x i) in (k.1, k.2)
 
   whole_span : (w : Span) → w.last ≤ e → span_items st h w ≡ sent_items st (between st.place e (live_in w h))
-  whole_span w l = ap (map (sent_as (is_plain_next st)))
+  whole_span w l = ap (map (sent_as (is_plain st)))
       (filter_same (λ c. nat_lt st.place c.seq && is_seen st.sync c.act) (λ c. seen c && up_to c) (live_in w h)
       (λ x i. let k = in_span w x i in let m : x.seq ≤ w.last = k.1 in sym (seen_up_to st.place e x.seq (seen x) (omega arith)))
       ∙ split seen up_to (live_in w h))
@@ -73,9 +73,9 @@ module _ (st : Stream) (h : List Change) (e : ℕ) where
 
   sent_append : (xs ys : List Change) → sent_items st (between st.place e (xs ++ ys)) ≡ sent_items st (between st.place e xs) ++ sent_items st (between st.place e ys)
   sent_append xs ys =
-      ap (λ zs. map (sent_as (is_plain_next st)) (filter seen zs)) (filter-append up_to xs ys)
-      ∙ ap (map (sent_as (is_plain_next st))) (filter-append seen (filter up_to xs) (filter up_to ys))
-      ∙ map-append (sent_as (is_plain_next st)) (filter seen (filter up_to xs)) (filter seen (filter up_to ys))
+      ap (λ zs. map (sent_as (is_plain st)) (filter seen zs)) (filter-append up_to xs ys)
+      ∙ ap (map (sent_as (is_plain st))) (filter-append seen (filter up_to xs) (filter up_to ys))
+      ∙ map-append (sent_as (is_plain st)) (filter seen (filter up_to xs)) (filter seen (filter up_to ys))
 
   pub sent_flat : (ws : List Span) → IsCut e ws → items_to st ws h e ≡ sent_items st (between st.place e (flat_map (λ w. live_in w h) ws))
   sent_flat [] k = refl
@@ -94,9 +94,9 @@ module _ (st : Stream) (h : List Change) (e : ℕ) where
   any_sent (x ∷ xs) = by (up_to x) (seen x) refl (any_sent xs)
     where
       by : (a b : Bool) → seen x ≡ b → has_any (sent_items st (between st.place e xs)) ≡ list_any (λ c. up_to c && seen c) xs
-          → has_any (map (sent_as (is_plain_next st)) (filter seen (cond a (x ∷ filter up_to xs) (filter up_to xs)))) ≡ ((a && b) || list_any (λ c. up_to c && seen c) xs)
-      by true true q ih = ap (λ t. has_any (map (sent_as (is_plain_next st)) (cond t (x ∷ filter seen (filter up_to xs)) (filter seen (filter up_to xs))))) q
-      by true false q ih = ap (λ t. has_any (map (sent_as (is_plain_next st)) (cond t (x ∷ filter seen (filter up_to xs)) (filter seen (filter up_to xs))))) q ∙ ih
+          → has_any (map (sent_as (is_plain st)) (filter seen (cond a (x ∷ filter up_to xs) (filter up_to xs)))) ≡ ((a && b) || list_any (λ c. up_to c && seen c) xs)
+      by true true q ih = ap (λ t. has_any (map (sent_as (is_plain st)) (cond t (x ∷ filter seen (filter up_to xs)) (filter seen (filter up_to xs))))) q
+      by true false q ih = ap (λ t. has_any (map (sent_as (is_plain st)) (cond t (x ∷ filter seen (filter up_to xs)) (filter seen (filter up_to xs))))) q ∙ ih
       by false b q ih = ih
 
 -- the live changes of all checkpoints are those of all spans

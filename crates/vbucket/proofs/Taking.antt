@@ -8,7 +8,6 @@ use Rattle.vb_types.specs.declared.stream.Snapshot.{Snapshot}
 use Rattle.vb_types.specs.Histories.{upto, Rises, IsIn, Slot, touches, last_by, last_of, is_visible, plain}
 use Rattle.branch_model.specs.Histories.{last_seq, HasOf, IsOf, StandsAs}
 use Rattle.branch_model.specs.Snapshots.{Remains, Covers, plain_view}
-use Rattle.branch_model.specs.Requests.{effective_ss}
 use Rattle.branch_model.proofs.Lists.{rises_in, rises_map, from_upto, last_in, last_smaller, last_seq_le}
 use Rattle.branch_model.proofs.Lasts.{remains_cover}
 use Rattle.vb_calls.specs.declared.calls.VbAnswer.TheVariants as answer
@@ -16,7 +15,7 @@ use Rattle.vb_calls.specs.declared.stream.Stream.{Stream}
 use Rattle.vb_calls.specs.declared.span.Span.{Span}
 use Rattle.vb_calls.specs.Plain.{Plain}
 use Rattle.vb_calls.specs.Spans.{all_spans, stretch, live_in, is_whole}
-use Rattle.vb_calls.specs.Streams.{stream_at, is_seen, is_plain_next, sent_as, span_items, items_to, has_any, may_end, end_span, start_of, need_of, snapshot_of, moved_on, take_to, take_from}
+use Rattle.vb_calls.specs.Streams.{stream_at, is_seen, is_plain, sent_as, span_items, items_to, has_any, may_end, end_span, need_of, snapshot_of, moved_on, take_to, take_from}
 use Rattle.vbucket.specs.Laws.{Sound, Follow, IsSpan, AllSpans}
 use Rattle.vbucket.specs.Takes.{shown_by, IsSentFor, IsSnapshot, TakesSnapshots}
 use Rattle.vbucket.proofs.Parts.{from_zero, among_most, between_of, between_tested, below_of, below_tested, most_of, both, conj, filtered, live_rises, bounded, in_filter, kept_in_filter, in_live, in_map, mapped_in, last_filtered, split, Among, found, stands_in, in_flat, in_flat_of, flat_rises}
@@ -52,14 +51,14 @@ module _ (s : Stream) (ws : List Span) (h : List Change) (low at : ℕ) (r : Ris
       (λ x i. between_of w.above w.last x.seq (in_filter (λ c. nat_lt w.above c.seq && nat_le c.seq w.last) h x i).1)
 
   span_rises : (w : Span) → w.above ≤ w.last → Rises w.above w.last (span_items s h w)
-  span_rises w m = rises_map (sent_as (is_plain_next s)) (sent_seq (is_plain_next s)) w.above w.last (filter wanted (live_in w h))
+  span_rises w m = rises_map (sent_as (is_plain s)) (sent_seq (is_plain s)) w.above w.last (filter wanted (live_in w h))
       (filtered wanted w.above w.last (live_in w h) (live_rises w.origin w.above w.last (stretch w.above w.last h) (stretch_rises w m)))
 
-  pub item_of : (x : Change) → IsIn x (items_to s ws h w0.last) → (c : Change) × IsIn c h × (s.place < c.seq) × (c.seq ≤ w0.last) × (x ≡ sent_as (is_plain_next s) c) × (is_seen s.sync c.act ≡ true)
+  pub item_of : (x : Change) → IsIn x (items_to s ws h w0.last) → (c : Change) × IsIn c h × (s.place < c.seq) × (c.seq ≤ w0.last) × (x ≡ sent_as (is_plain s) c) × (is_seen s.sync c.act ≡ true)
   item_of x i =
       let j = in_flat (span_items s h) taken ws x i in
       let w = j.0 in
-      let k = in_map (sent_as (is_plain_next s)) (filter wanted (live_in w h)) x j.3 in
+      let k = in_map (sent_as (is_plain s)) (filter wanted (live_in w h)) x j.3 in
       let c = k.0 in
       let m = in_filter wanted (live_in w h) c k.1 in
       let n = in_filter (λ d. nat_lt w.above d.seq && nat_le d.seq w.last) h c (in_live w.origin (stretch w.above w.last h) c m.0) in
@@ -71,10 +70,10 @@ module _ (s : Stream) (ws : List Span) (h : List Change) (low at : ℕ) (r : Ris
 
   items_rise : Rises s.place w0.last (items_to s ws h w0.last)
   items_rise = bounded low at s.place w0.last (items_to s ws h w0.last) (flat_rises (span_items s h) taken span_rises low at ws f) (omega arith)
-      (λ x i. let k = item_of x i in let e : x.seq ≡ k.0.seq = ap (λ (y : Change). y.seq) k.4 ∙ sent_seq (is_plain_next s) k.0 in let p : s.place < k.0.seq = k.2 in let q : k.0.seq ≤ w0.last = k.3 in (omega arith, omega arith))
+      (λ x i. let k = item_of x i in let e : x.seq ≡ k.0.seq = ap (λ (y : Change). y.seq) k.4 ∙ sent_seq (is_plain s) k.0 in let p : s.place < k.0.seq = k.2 in let q : k.0.seq ≤ w0.last = k.3 in (omega arith, omega arith))
 
   -- the last change of each slot is given, where the stream sees it
-  pub item_there : (slot : Slot) (c : Change) → last_of slot (upto h w0.last) ≡ Some c → s.place < c.seq → is_seen s.sync c.act ≡ true → IsIn (sent_as (is_plain_next s) c) (items_to s ws h w0.last)
+  pub item_there : (slot : Slot) (c : Change) → last_of slot (upto h w0.last) ≡ Some c → s.place < c.seq → is_seen s.sync c.act ≡ true → IsIn (sent_as (is_plain s) c) (items_to s ws h w0.last)
   item_there slot c e p v =
       let test = touches slot in
       let i = from_upto c h w0.last (last_in test (upto h w0.last) c e).0 in
@@ -87,15 +86,15 @@ module _ (s : Stream) (ws : List Span) (h : List Change) (low at : ℕ) (r : Ris
       let lower = last_smaller at h test w.last w0.last c r0 most reach e in
       let here = ap (last_by test) (split (λ d. nat_lt w.above d.seq) (λ d. nat_le d.seq w.last) h) ∙ last_filtered test (λ d. nat_lt w.above d.seq) (upto h w.last) c lower (below_tested w.above c.seq above) in
       let live = slot_live w.above w.last w.origin slot c (stretch w.above w.last h) (stretch_rises w (omega arith)) (among_all h ws w t k.1).tidy here in
-      let item = mapped_in (sent_as (is_plain_next s)) (filter wanted (live_in w h)) c (kept_in_filter wanted (live_in w h) c live (conj (nat_lt s.place c.seq) (is_seen s.sync c.act) (below_tested s.place c.seq p) v)) in
-      in_flat_of (span_items s h) taken ws w (sent_as (is_plain_next s) c) k.1 (between_tested s.place w0.last w.last (omega arith) most) item
+      let item = mapped_in (sent_as (is_plain s)) (filter wanted (live_in w h)) c (kept_in_filter wanted (live_in w h) c live (conj (nat_lt s.place c.seq) (is_seen s.sync c.act) (below_tested s.place c.seq p) v)) in
+      in_flat_of (span_items s h) taken ws w (sent_as (is_plain s) c) k.1 (between_tested s.place w0.last w.last (omega arith) most) item
 
   -- a sync stream
   sync_remains : s.sync ≡ true → Remains (items_to s ws h w0.last) h s.place w0.last
   sync_remains e = record {
     rises = items_rise;
-    of = λ x i. let k = item_of x i in (k.0, k.1, subst (λ y. StandsAs y k.0) (sym k.4) (stands (is_plain_next s) k.0));
-    has = λ slot c q p m. (sent_as (is_plain_next s) c, item_there slot c q p (ap (λ b. b || is_visible c.act) e), stands (is_plain_next s) c);
+    of = λ x i. let k = item_of x i in (k.0, k.1, subst (λ y. StandsAs y k.0) (sym k.4) (stands (is_plain s) k.0));
+    has = λ slot c q p m. (sent_as (is_plain s) c, item_there slot c q p (ap (λ b. b || is_visible c.act) e), stands (is_plain s) c);
   }
 
   sync_full : s.sync ≡ true → last_seq s.place (items_to s ws h w0.last) ≡ w0.last
@@ -105,8 +104,8 @@ module _ (s : Stream) (ws : List Span) (h : List Change) (low at : ℕ) (r : Ris
   plain_remains : s.sync ≡ false → Remains (items_to s ws h w0.last) (plain_view h) s.place w0.last
   plain_remains e = record { rises = items_rise; of = of; has = has }
     where
-      as_plain : (c : Change) → sent_as (is_plain_next s) c ≡ plain c
-      as_plain c = ap (λ b. sent_as (not b || (not s.taken && nat_lt (effective_ss s.ask.start s.ask.ss s.ask.se) s.ask.start)) c) e
+      as_plain : (c : Change) → sent_as (is_plain s) c ≡ plain c
+      as_plain c = ap (λ b. sent_as (not b) c) e
 
       seen : (c : Change) → is_seen s.sync c.act ≡ is_visible c.act
       seen c = ap (λ b. b || is_visible c.act) e
@@ -119,7 +118,7 @@ module _ (s : Stream) (ws : List Span) (h : List Change) (low at : ℕ) (r : Ris
           let k = plain_of_view h x (from_upto x (plain_view h) w0.last (last_in (touches slot) (upto (plain_view h) w0.last) x q).0).0 in
           let last = plain_last at w0.last h slot x k.0 r0 q k.1 k.2 k.3 in
           let es : x.seq ≡ k.0.seq = ap (λ (y : Change). y.seq) k.3 in
-          (sent_as (is_plain_next s) k.0, item_there (Slot.Committed k.0.key) k.0 last (omega arith) (seen k.0 ∙ k.2), inl (as_plain k.0 ∙ sym k.3))
+          (sent_as (is_plain s) k.0, item_there (Slot.Committed k.0.key) k.0 last (omega arith) (seen k.0 ∙ k.2), inl (as_plain k.0 ∙ sym k.3))
 
   shown_remains : (b : Bool) → s.sync ≡ b → Remains (items_to s ws h w0.last) (shown_by s h) s.place w0.last
   shown_remains true e = subst (λ b. Remains (items_to s ws h w0.last) (if b then h else plain_view h) s.place w0.last) (sym e) (sync_remains e)
@@ -158,7 +157,7 @@ snapshot_at vb s w sound a e =
       reaches = most_of (need_of s) w.last n.1;
       starts = refl;
       whole = o.1;
-      sent = λ x i. let k = item_of s ws h vb.floor at sound.rises sound.spans sound.tidy w a l x i in (k.0, k.1, subst (IsSentFor s (start_of s) k.0) (sym k.4) (sent_for s k.0));
+      sent = λ x i. let k = item_of s ws h vb.floor at sound.rises sound.spans sound.tidy w a l x i in (k.0, k.1, subst (IsSentFor s k.0) (sym k.4) (sent_for s k.0));
     }
 
 -- what a take of this stream leaves

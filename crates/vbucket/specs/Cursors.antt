@@ -1,6 +1,5 @@
 -- which calls make, move and take away the cursor of a stream
 use Rattle.std.specs.Prelude.{◌≡◌, ◌⊎◌, ℕ, Bool, ◌<◌, ◌≤◌, true, List, [], ◌∷◌, Some}
-use Rattle.vb_types.specs.declared.stream.AskAnswer.TheVariants.{Go}
 use Rattle.vb_types.specs.declared.stream.Place.TheVariants.{Memory}
 use Rattle.vb_types.specs.declared.stream.StreamAsk.{StreamAsk}
 use Rattle.vb_calls.specs.declared.calls.VbAnswer.{VbAnswer}
@@ -29,9 +28,9 @@ IsEnded id (n ∷ ns) = (n ≡ id) ⊎ IsEnded id ns
 abbrev pub IsPlaced : Plain → VbCall → ℕ → ℕ → VbAnswer → Type 0
 IsPlaced vb call id place said = (call ≡ Place id) × (said ≡ answer.Placed Memory) × ((s : Stream) × (stream_at id vb.streams ≡ Some s) × (s.place ≡ place))
 
--- one is opened at a place that is served from memory
+-- one is opened whose changes come from memory
 abbrev pub IsOpened : Plain → VbCall → ℕ → ℕ → VbAnswer → Type 0
-IsOpened vb call id place said = (ask : StreamAsk) × (sync : Bool) × (call ≡ OpenStream id ask sync) × (said ≡ answer.Asked Go vb.log vb.position.at) × (memory_from vb ≤ ask.start) × (ask.start ≡ place)
+IsOpened vb call id place said = (ask : StreamAsk) × (sync : Bool) × (call ≡ OpenStream id ask sync) × (said ≡ answer.Opened vb.log vb.position.at Memory) × (ask.start ≡ place)
 
 -- the stream is closed, its cursor is taken from it, or it is ended by a change of role
 abbrev pub IsOver : VbCall → ℕ → VbReply → Type 0

@@ -19,7 +19,7 @@ use Rattle.vb_calls.specs.declared.stream.Stream.{Stream}
 use Rattle.vb_calls.specs.State.{Plain, complete_position, newest_branch, pending_of, quiet_reply, refusal_reply}
 use Rattle.vb_calls.specs.Following.{cas_of, completed_act, is_follower, is_next}
 use Rattle.vb_calls.specs.Spans.{all_spans}
-use Rattle.vb_calls.specs.Streams.{is_plain_next, is_seen, moved_on, need_of, open_row, place_row, sent_as, snapshot_of, stream_at}
+use Rattle.vb_calls.specs.Streams.{is_plain, is_seen, moved_on, need_of, open_row, place_row, sent_as, snapshot_of, stream_at}
 use Rattle.vb_calls.specs.Writes.{new_cas, store_refusal, write_change}
 use Rattle.cursor_set.specs.Cursors.{place_of}
 use Rattle.ckpt_list.specs.Trims.{trimmed}
@@ -104,7 +104,7 @@ kept_place k id = restreamed (λ vb. place_row vb id) k
 
 -- what a stream is sent of the changes that its cursor is given
 abbrev pub sent_items : Stream → List Change → List Change
-sent_items s items = map (sent_as (is_plain_next s)) (filter (λ c. is_seen s.sync c.act) items)
+sent_items s items = map (sent_as (is_plain s)) (filter (λ c. is_seen s.sync c.act) items)
 
 -- a take up to the end of a checkpoint, if there is one
 abbrev pub kept_take_to : Option ℕ → Stream → Kept → Kept × VbReply

@@ -6,8 +6,6 @@ use Rattle.vb_types.specs.declared.doc.Doc.{Doc}
 use Rattle.vb_types.specs.declared.change.Act.TheVariants as act
 use Rattle.vb_types.specs.declared.change.Change.{Change}
 use Rattle.vb_types.specs.declared.change.Pend.{Pend}
-use Rattle.vb_types.specs.declared.stream.AskAnswer.{AskAnswer}
-use Rattle.vb_types.specs.declared.stream.AskAnswer.TheVariants as ask_answer
 use Rattle.vb_types.specs.Images.{Picture, applied}
 use Rattle.vb_types.specs.declared.role.Role.{Role}
 use Rattle.vb_types.specs.declared.role.Role.TheVariants as role
@@ -251,16 +249,10 @@ StaysSound = (vb : Plain) (call : VbCall) → Sound vb → IsTimely call → Sou
 abbrev pub CasNeverFalls : Type 0
 CasNeverFalls = (vb : Plain) (call : VbCall) → Sound vb → vb.last_cas ≤ (plain_step vb call).0.last_cas
 
--- a request for a stream that was not granted
-abbrev pub is_denial : AskAnswer → Bool
-is_denial ask_answer.Go = false
-is_denial (ask_answer.Roll to) = true
-is_denial (ask_answer.Refuse code) = true
-
--- an answer to a call that was not made: a status, a request that was not granted, no such stream, no snapshot yet
+-- an answer to a call that was not made: a status, a request that opened no stream, no such stream, no snapshot yet
 abbrev pub is_refusal : VbAnswer → Bool
 is_refusal (answer.Status status) = true
-is_refusal (answer.Asked said log high) = is_denial said
+is_refusal (answer.Asked said log high) = true
 is_refusal answer.Absent = true
 is_refusal answer.Nothing = true
 is_refusal answer.Done = false
@@ -271,6 +263,7 @@ is_refusal (answer.Branch uuid parent fork high) = false
 is_refusal (answer.Found doc) = false
 is_refusal (answer.Stored uuid seq cas) = false
 is_refusal (answer.Prepared seq cas) = false
+is_refusal (answer.Opened log high from) = false
 is_refusal (answer.Placed place) = false
 is_refusal (answer.Taken snapshot) = false
 is_refusal (answer.Rows batch) = false

@@ -15,7 +15,7 @@ use Rattle.vb_calls.specs.declared.span.Span.{Span}
 use Rattle.vb_calls.specs.declared.span.Origin.TheVariants.{Received}
 use Rattle.vb_calls.specs.Plain.{Plain, plain_step}
 use Rattle.vb_calls.specs.Spans.{all_spans, is_whole}
-use Rattle.vb_calls.specs.Streams.{stream_at, need_of, start_of}
+use Rattle.vb_calls.specs.Streams.{stream_at, need_of}
 use Rattle.vbucket.specs.Asks.{IsOpen}
 use Rattle.vbucket.specs.Laws.{Sound}
 
@@ -32,16 +32,12 @@ IsWrittenOut (act.Commit prepared doc true) a = a ≡ act.Remove doc.cas doc.rev
 IsWrittenOut (act.Commit prepared doc false) a = a ≡ act.Set doc
 IsWrittenOut (act.Abort prepared) a = a ≡ act.Abort prepared
 
--- a stream's next snapshot, from this start, has its commits written out: the stream is not sync, or it is a first snapshot from below the request's start
-abbrev pub WritesOut : Stream → ℕ → Type 0
-WritesOut s start = (s.sync ≡ false) ⊎ ((s.taken ≡ false) × (start < s.ask.start))
-
--- x is sent for c: the same, but for a commit that is written out
-pub record IsSentFor (s : Stream) (start : ℕ) (c x : Change) : Type 0 where
+-- x is sent for c: the same, but for a commit, which is written out exactly on a stream that is not sync
+pub record IsSentFor (s : Stream) (c x : Change) : Type 0 where
   pub seq : x.seq ≡ c.seq
   pub key : x.key ≡ c.key
-  pub out : WritesOut s start → IsWrittenOut c.act x.act
-  pub as_is : (WritesOut s start → ⊥) → x.act ≡ c.act
+  pub out : s.sync ≡ false → IsWrittenOut c.act x.act
+  pub as_is : s.sync ≡ true → x.act ≡ c.act
 
 -- a whole snapshot of what a stream shows of a vBucket, above the stream's place and with all that is shown up to `end`, from where the stream goes on; no received snapshot is cut there, the request's need is reached, and each change is sent for one of the vBucket's
 pub record IsSnapshot (vb : Plain) (s : Stream) (end : ℕ) (snapshot : Snapshot) : Type 0 where
@@ -50,9 +46,9 @@ pub record IsSnapshot (vb : Plain) (s : Stream) (end : ℕ) (snapshot : Snapshot
   pub within : (snapshot.end ≤ end) × (end ≤ vb.position.at)
   pub full : s.sync ≡ true → snapshot.end ≡ end
   pub reaches : need_of s ≤ end
-  pub starts : snapshot.start ≡ start_of s
+  pub starts : snapshot.start ≡ s.place
   pub whole : is_whole end (all_spans vb.spans) ≡ true
-  pub sent : (x : Change) → IsIn x snapshot.items → (c : Change) × IsIn c vb.held × IsSentFor s snapshot.start c x
+  pub sent : (x : Change) → IsIn x snapshot.items → (c : Change) × IsIn c vb.held × IsSentFor s c x
 
 -- a stream after a snapshot up to `end`, if it is the one of this number: its place is there, and its next snapshot is no first one
 abbrev pub gone_on : ℕ → ℕ → Stream → Stream

@@ -64,8 +64,8 @@ pub fn spans_are_filled()
 /// What a stream is given is a whole snapshot of what it shows: its changes rise, are changes of the
 /// vBucket, and have the last change of each slot that the stream has not been given. It reaches
 /// what the request needs, and ends inside no received snapshot. It ends at the first such place, and
-/// nothing is given exactly where there is none. Its commits are sent as sets and removals exactly on a
-/// stream that is not sync, and in a first snapshot from below the request's start.
+/// nothing is given exactly where there is none. It starts at the stream's place, and its commits are sent
+/// as sets and removals exactly on a stream that is not sync.
 pub fn takes_are_snapshots()
     ensures whole { TakesSnapshots }
     ensures exactly { TakesExactly }

@@ -2,7 +2,7 @@
 //! law as the contract of a function that does nothing.
 ghost use Rattle.std.specs.Prelude.{◌≡◌, ◌∷◌, [], ℕ, false, true, List, None};
 ghost use Rattle.durability.specs.Outstanding.{no_acks};
-ghost use Rattle.vb_calls.specs.{Plain.{Plain, plain_step}, State.{image_in, loaded_vb, new_vb, quiet_reply}, Streams.{is_plain_next, need_of, snapshot_of, start_of}};
+ghost use Rattle.vb_calls.specs.{Plain.{Plain, plain_step}, State.{image_in, loaded_vb, new_vb, quiet_reply}, Streams.{is_plain, need_of, snapshot_of}};
 ghost use Rattle.vb_calls.specs.declared.calls.VbAnswer.TheVariants.{Absent, Logged, Nothing, Placed, Shown, Stat as StatAnswer};
 ghost use Rattle.vb_calls.specs.declared.calls.VbCall.TheVariants.{Log, Place, Show, Stat, Take};
 ghost use Rattle.vb_types.specs.declared.stream.Place.TheVariants.{Memory, WaitSaved};
@@ -46,17 +46,15 @@ pub fn vbuckets_are_shown()
     ensures bare { (vb : Plain) → ((plain_step vb Show).1.changes ≡ []) × ((plain_step vb Log).1.changes ≡ []) }
 {}
 
-/// Where a stream's next snapshot starts, as its marker says it: a first one where the request means, and
-/// any later one where the stream stands; up to where it has to reach; whether its commits are
-/// written out; and that it is from memory.
+/// A snapshot starts where its stream stands, and is from memory; how far it has to reach, until one did;
+/// and whether its commits are written out, by the stream alone.
 pub fn snapshots_start_in_numbers()
-    ensures inside { (start_of (asked_for true 5 3 9) ≡ 3) × (need_of (asked_for true 5 3 9) ≡ 9) × (is_plain_next (asked_for true 5 3 9) ≡ true) }
-    ensures at_end { (start_of (asked_for true 9 4 9) ≡ 9) × (need_of (asked_for true 9 4 9) ≡ 9) × (is_plain_next (asked_for true 9 4 9) ≡ false) }
-    ensures at_start { (start_of (asked_for true 6 6 9) ≡ 6) × (need_of (asked_for true 6 6 9) ≡ 6) × (is_plain_next (asked_for true 6 6 9) ≡ false) }
-    ensures from_nothing { (start_of (asked_for true 0 0 0) ≡ 0) × (need_of (asked_for true 0 0 0) ≡ 0) }
-    ensures later { (start_of (given_to 12 (asked_for true 5 3 9)) ≡ 12) × (need_of (given_to 12 (asked_for true 5 3 9)) ≡ 0) × (is_plain_next (given_to 12 (asked_for true 5 3 9)) ≡ false) }
-    ensures memory { (items : List ChangeData) → ((snapshot_of (asked_for true 5 3 9) items).disk ≡ false) × ((snapshot_of (asked_for true 5 3 9) items).start ≡ 3) × ((snapshot_of (asked_for true 5 3 9) items).items ≡ items) }
-    ensures plain { (is_plain_next (asked_for false 9 4 9) ≡ true) × (is_plain_next (given_to 12 (asked_for false 5 3 9)) ≡ true) }
+    ensures first { (items : List ChangeData) → ((snapshot_of (asked_for true 5 3 9) items).start ≡ 5) × ((snapshot_of (asked_for true 5 3 9) items).disk ≡ false) × ((snapshot_of (asked_for true 5 3 9) items).items ≡ items) }
+    ensures later { (items : List ChangeData) → (snapshot_of (given_to 12 (asked_for true 5 3 9)) items).start ≡ 12 }
+    ensures inside { (need_of (asked_for true 5 3 9) ≡ 9) × (need_of (given_to 12 (asked_for true 5 3 9)) ≡ 0) }
+    ensures at_ends { (need_of (asked_for true 9 4 9) ≡ 9) × (need_of (asked_for true 6 6 9) ≡ 6) × (need_of (asked_for true 0 0 0) ≡ 0) }
+    ensures sync { (is_plain (asked_for true 5 3 9) ≡ false) × (is_plain (given_to 12 (asked_for true 5 3 9)) ≡ false) }
+    ensures plain { (is_plain (asked_for false 9 4 9) ≡ true) × (is_plain (given_to 12 (asked_for false 5 3 9)) ≡ true) }
 {}
 
 /// Over memory that begins at 5: a stream without a cursor waits at 4, and has one from 5 on once it is

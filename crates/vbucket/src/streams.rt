@@ -62,7 +62,7 @@ pub fn has_range(ask: &StreamAsk) -> bool
     ask.start <= ask.end && in_order(ask.start, ask.ss, ask.se)
 }
 
-/// The snapshot's end that a stream's request means, until a first snapshot has reached it.
+/// The snapshot's end that a stream's request means, until a snapshot has reached it.
 pub fn needed_end(stream: &Stream) -> u64
     ensures { result ≡ spec.need_of stream.now }
 {
@@ -161,21 +161,6 @@ pub fn give_cursor(
     Ok(())
 }
 
-/// Where a stream's next snapshot starts.
-fn next_start(stream: &Stream) -> u64
-    ensures { result ≡ spec.start_of stream.now }
-{
-    let (ss, _) = effective(stream.ask.start, stream.ask.ss, stream.ask.se);
-    if stream.taken { stream.place } else { ss }
-}
-
-/// Whether a stream's next snapshot has commits as sets and removals.
-fn gives_plain(stream: &Stream) -> bool
-    ensures { result ≡ spec.is_plain_next stream.now }
-{
-    !stream.sync || (!stream.taken && next_start(stream) < stream.ask.start)
-}
-
 /// Whether a stream sees an act.
 fn sees(stream: &Stream, act: &Act) -> bool
     ensures { result ≡ spec.is_seen stream.now.sync act.now }
@@ -222,7 +207,7 @@ fn items_for(
 ) -> Result<Listed<Change>, AllocError>
     ensures { IfOk result (λ items. items ≡ sent_items stream.now changes.now) }
 {
-    let as_plain = gives_plain(stream);
+    let as_plain = !stream.sync;
     let mut items = Listed::new(alloc);
     for change in changes {
         if sees(stream, &change.act) {
@@ -238,7 +223,7 @@ fn snapshot_of(alloc: Global, stream: &Stream, changes: &[Change]) -> Result<Sna
 {
     let items = items_for(alloc, stream, changes)?;
     Ok(Snapshot {
-        start: next_start(stream),
+        start: stream.place,
         end: end_seq(stream.place, items.as_slice()),
         disk: false,
         items,

@@ -93,8 +93,10 @@ pub enum Told {
     Found(u64, u64),
     /// The seqno and the CAS of a write.
     Stored(u64, u64),
-    /// What is said to a request, how many entries the log has, and the last seqno.
+    /// What is said to a request that opens no stream, how many entries the log has, and the last seqno.
     Asked(AskAnswer, usize, u64),
+    /// How many entries the log has, the last seqno, and where the changes of the new stream come from.
+    Opened(usize, u64, Place),
     Placed(Place),
     /// The snapshot's start and end, and how many changes it has.
     Taken(u64, u64, usize),
@@ -356,6 +358,11 @@ fn logged(log: &[LogEntry]) -> Told {
     }
 }
 
+fn batched(batch: &Batch) -> Told {
+    let at = &batch.position;
+    Told::Batch(at.ss, at.se, at.at, batch.items.as_slice().len())
+}
+
 pub fn outline(reply: &VbReply) -> Told {
     match &reply.answer {
         VbAnswer::Status(status) => Told::Refused(*status),
@@ -366,6 +373,9 @@ pub fn outline(reply: &VbReply) -> Told {
         VbAnswer::Stored { seq, cas, .. } => Told::Stored(*seq, *cas),
         VbAnswer::Prepared { seq, .. } => Told::Prepared(*seq, reply.changes.as_slice().len()),
         VbAnswer::Asked { said, log, high } => Told::Asked(*said, log.as_slice().len(), *high),
+        VbAnswer::Opened { log, high, place } => {
+            Told::Opened(log.as_slice().len(), *high, *place)
+        }
         VbAnswer::Placed(place) => Told::Placed(*place),
         VbAnswer::Taken(taken) => {
             Told::Taken(taken.start, taken.end, taken.items.as_slice().len())
@@ -383,13 +393,7 @@ pub fn outline(reply: &VbReply) -> Told {
             high,
         } => Told::Branch(*uuid, *parent, *fork, *high),
         VbAnswer::Shown { ss, se, at, .. } => Told::Shown(*ss, *se, *at),
-        VbAnswer::Rows(
-            Batch {
-                position: Position { ss, se, at },
-                items,
-                ..
-            },
-        ) => Told::Batch(*ss, *se, *at, items.as_slice().len()),
+        VbAnswer::Rows(batch) => batched(batch),
         VbAnswer::Stat {
             windows,
             items,

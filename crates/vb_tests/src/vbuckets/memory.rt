@@ -1,12 +1,13 @@
 //! What a vBucket gives up of its memory.
 use super::calls::{At, Do, Step, Talk, Told, first_other_of};
 use std::test::Fail;
-use vb_types::{AskAnswer, Op, Place};
+use vb_types::{Op, Place};
 
-const GO: Told = Told::Asked(AskAnswer::Go, 1, 1);
+const GO: Told = Told::Opened(1, 1, Place::Memory);
 
-// The open span stays, and a sealed one that a cursor stands in. Behind the trim the stream waits.
-const ONE: [Step; 19] = [
+// The open span stays, and a sealed one that a cursor stands in. Behind the trim the stream waits, and so
+// does one that is opened there.
+const ONE: [Step; 22] = [
     (Do::Store(Op::Set, 1), Told::Stored(1, 1)),
     (Do::Trim, Told::Num(0)),
     (Do::Flush, Told::Num(1)),
@@ -26,6 +27,9 @@ const ONE: [Step; 19] = [
     (Do::Take(3), Told::Nothing),
     (Do::Get, Told::Found(1, 1)),
     (Do::Close(3), Told::Flag(true)),
+    (Do::Open(3, 0, 0), Told::Opened(1, 1, Place::WaitSaved)),
+    (Do::Open(4, 5, 1), GO),
+    (Do::Stat, Told::Stat(0, 0, 2, 1, 1)),
 ];
 
 // A span goes once it is saved; what was only taken to be stays.

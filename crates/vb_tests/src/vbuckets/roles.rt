@@ -1,7 +1,7 @@
 //! A vBucket whose role changes, and one that goes back to the start.
 use super::calls::{At, Do, Step, Talk, Told, first_other, first_other_of};
 use std::test::Fail;
-use vb_types::{AskAnswer, Status};
+use vb_types::{Place, Status};
 
 const EINVAL: Told = Told::Refused(Status::Einval);
 
@@ -56,8 +56,8 @@ fn a_26th_branch_drops_the_oldest(rt: HostRuntime) -> Result<(), Fail> {
 
 // A change of role ends streams.
 const STREAMS: [Step; 5] = [
-    (Do::Open(3, 0, 0), Told::Asked(AskAnswer::Go, 1, 0)),
-    (Do::Open(4, 0, 0), Told::Asked(AskAnswer::Go, 1, 0)),
+    (Do::Open(3, 0, 0), Told::Opened(1, 0, Place::Memory)),
+    (Do::Open(4, 0, 0), Told::Opened(1, 0, Place::Memory)),
     (Do::Follow, Told::Ended(3, 4)),
     (Do::Place(3), Told::Absent),
     (Do::Follow, NOT_MY_VBUCKET),

@@ -2,13 +2,13 @@
 use super::calls::{At, Do, Step, Talk, Told, first_other_of};
 use std::test::Fail;
 use vb_calls::Resolution;
-use vb_types::{AskAnswer, Level, Op, Place, Status};
+use vb_types::{Level, Op, Place, Status};
 
 const EINVAL: Told = Told::Refused(Status::Einval);
 
 const NOT_MY_VBUCKET: Told = Told::Refused(Status::NotMyVbucket);
 
-const GO: Told = Told::Asked(AskAnswer::Go, 1, 0);
+const GO: Told = Told::Opened(1, 0, Place::Memory);
 
 // The heir's snapshot is complete then, at its last seqno, and its log has no new entry.
 const OWNED: [Step; 16] = [
@@ -99,7 +99,7 @@ const YIELDED: [Step; 16] = [
 const AMBIGUOUS: [Step; 4] = [
     (Do::Chain(&[Some(2)]), Told::Done),
     (Do::Durable(Level::Majority, 50), Told::Prepared(1, 1)),
-    (Do::Open(3, 0, 0), Told::Asked(AskAnswer::Go, 1, 1)),
+    (Do::Open(3, 0, 0), Told::Opened(1, 1, Place::Memory)),
     (Do::Yield(3), Told::Resolved(0, Resolution::Ambiguous)),
 ];
 
@@ -109,7 +109,7 @@ const ENDED: [Step; 9] = [
     (Do::Yield(3), Told::Done),
     (Do::Promote(22), Told::Branch(22, Some(5), 0, 0)),
     (Do::Take(3), Told::Absent),
-    (Do::Open(3, 0, 0), Told::Asked(AskAnswer::Go, 2, 0)),
+    (Do::Open(3, 0, 0), Told::Opened(2, 0, Place::Memory)),
     (Do::Yield(3), Told::Done),
     (Do::Close(3), Told::Flag(true)),
     (Do::Follow, Told::Done),

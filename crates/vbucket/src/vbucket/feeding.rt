@@ -5,9 +5,9 @@ ghost use Rattle.ckpt_list.specs.Trims.{needless};
 ghost use Rattle.cursor_set.specs.Cursors.{place_of};
 ghost use Rattle.vb_calls.specs.Forms.{HasForm};
 ghost use Rattle.vb_calls.specs.State.{is_active, quiet_reply};
-ghost use Rattle.vb_calls.specs.Streams.{ask_reply, is_in_memory, memory_from, open_refusal, stream_at};
+ghost use Rattle.vb_calls.specs.Streams.{ask_reply, is_in_memory, memory_from, open_refusal, source_of, stream_at};
 ghost use Rattle.vb_calls.specs.Trims.{drop_row, needless_of};
-ghost use Rattle.vb_calls.specs.declared.calls.VbAnswer.TheVariants.{Asked};
+ghost use Rattle.vb_calls.specs.declared.calls.VbAnswer.TheVariants.{Asked, Opened};
 ghost use Rattle.vb_calls.specs.declared.calls.VbCall.TheVariants.{OpenStream};
 ghost use Rattle.vbucket.specs.Kept.{SameChanges, floored, kept_open, kept_place, kept_take, kept_trim};
 
@@ -37,7 +37,7 @@ impl VBucket {
         }
     }
 
-    /// What is said to a request, with the failover log and the last seqno.
+    /// What is said to a request that opens no stream, with the failover log and the last seqno.
     fn tell_asked(&self, said: AskAnswer) -> Result<VbReply, AllocError>
         ensures reply { IfOk result (λ reply. reply ≡ ask_reply self.now.rest said) }
         ensures bounded { length self.now.rest.log ≤ log_limit }
@@ -54,6 +54,14 @@ impl VBucket {
         self.told(VbAnswer::Asked { said, log, high })
     }
 
+    /// What is said of a stream that is opened, with this log, and where its changes come from.
+    fn opened(&self, log: Listed<LogEntry>, place: Place) -> VbReply
+        ensures { result ≡ quiet_reply (Opened log self.now.rest.position.at place) }
+    {
+        let high = self.position.at;
+        self.told(VbAnswer::Opened { log, high, place })
+    }
+
     /// The least place that is served from memory.
     fn memory_from(&self) -> u64
         ensures { result ≡ memory_from (floored self.now) }
@@ -66,6 +74,17 @@ impl VBucket {
         ensures { result ≡ is_in_memory (floored self.now) place }
     {
         self.memory_from() <= place
+    }
+
+    /// Where the changes of a stream come from that has no cursor.
+    fn source_of(&self, stream: &Stream) -> Place
+        ensures { result ≡ source_of (floored self.now) stream.now }
+    {
+        if self.is_in_memory(stream.place) {
+            Place::Memory
+        } else {
+            Place::WaitSaved
+        }
     }
 
     /// Opens a stream, unless its request is refused or has to roll back. An `Err` changes nothing.
@@ -94,9 +113,10 @@ impl VBucket {
             cursor: self.is_in_memory(ask.start),
             taken: false,
         };
+        let from = self.source_of(&stream);
         let log = self.entries()?;
         streams::open(&mut self.list, &mut self.streams, stream)?;
-        Ok(self.asked(AskAnswer::Go, log))
+        Ok(self.opened(log, from))
     }
 
     /// Where a stream's next changes come from; one that has no cursor is given one where they are in
