@@ -244,3 +244,4 @@ why_plain why.Idle = refl
 why_plain why.Full = refl
 why_plain why.WaitState = refl
 why_plain why.WaitSaved = refl
+why_plain why.Disk = refl

@@ -129,7 +129,8 @@ why_of word =
     else if bytes_eq word (codes "idle") then Some why.Idle
     else if bytes_eq word (codes "full") then Some why.Full
     else if bytes_eq word (codes "wait-state") then Some why.WaitState
-    else Some why.WaitSaved
+    else if bytes_eq word (codes "wait-saved") then Some why.WaitSaved
+    else Some why.Disk
 
 pub why_clean : (w : Why) → clean ends (why_text w) ≡ true
 why_clean why.All = refl
@@ -137,6 +138,7 @@ why_clean why.Idle = refl
 why_clean why.Full = refl
 why_clean why.WaitState = refl
 why_clean why.WaitSaved = refl
+why_clean why.Disk = refl
 
 pub why_is : (w : Why) → why_of (why_text w) ≡ Some w
 why_is why.All = refl
@@ -144,6 +146,7 @@ why_is why.Idle = refl
 why_is why.Full = refl
 why_is why.WaitState = refl
 why_is why.WaitSaved = refl
+why_is why.Disk = refl
 
 pub why_back : {X : Type 0} (w : Why) (s : ℕ) (rest : List ℕ) (k : Why → List ℕ → Option X) → ends s ≡ true → reading why_of (why_text w ++ s ∷ rest) k ≡ k w rest
 why_back w s rest k e = read_word why_of (why_text w) w s rest k (why_clean w) e (why_is w)

@@ -54,6 +54,7 @@ why_is why.Idle = refl
 why_is why.Full = refl
 why_is why.WaitState = refl
 why_is why.WaitSaved = refl
+why_is why.Disk = refl
 
 cause_is : (c : Cause) → as_cause (cause_text c) ≡ c
 cause_is cause.UnknownNode = refl

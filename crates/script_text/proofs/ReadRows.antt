@@ -8,7 +8,7 @@ use Rattle.script_text.specs.Transcript.{hex_text, place_text, link_text, client
 use Rattle.script_text.specs.Taken.{as_bytes, as_log}
 use Rattle.script_text.specs.TakenLines.{line_taken}
 use Rattle.script_text.specs.ReadBack.{line_text, line_of, transcript_of}
-use Rattle.script_text.specs.ReadRows.{ReadInLetters, ClientsReadInLetters, StatesReadInLetters, BreaksInLetters, ClientsBreakInLetters, StatesBreakInLetters}
+use Rattle.script_text.specs.ReadRows.{ReadInLetters, ClientsReadInLetters, StatesReadInLetters, BreaksInLetters, ClientsBreakInLetters, StatesBreakInLetters, UnreadInLetters, UnreadBreaksInLetters}
 use Rattle.script_text.proofs.ReadLaws.{found, broken}
 
 pub read : ReadInLetters
@@ -107,4 +107,20 @@ states_break = record {
   waits_shorter = broken _ _ refl;
   waits_alone = broken _ _ refl;
   waits_more = broken _ _ refl;
+}
+
+pub unread : UnreadInLetters
+unfolding transcript_of line_of line_taken line_text event_text link_text number_of digits
+unread = record { none = found _ _ refl; marked = found _ _ refl; most = found _ _ refl }
+
+pub unread_breaks : UnreadBreaksInLetters
+unfolding transcript_of line_of line_taken line_text event_text link_text number_of digits
+unread_breaks = record {
+  other_case = broken _ _ refl;
+  longer = broken _ _ refl;
+  shorter = broken _ _ refl;
+  alone = broken _ _ refl;
+  more = broken _ _ refl;
+  space = broken _ _ refl;
+  zeros = broken _ _ refl;
 }

@@ -10,7 +10,7 @@ use Rattle.std.proofs.lemmas.List.Elements.{All-weaker, All-from_get_or}
 use Rattle.std.proofs.lemmas.List.Splits.{join_with_byte-slice_split}
 use Rattle.hex.specs.Hex.{decode_of, is_hex_digit}
 use Rattle.hex.proofs.HexLemmas.{decode_of-ok, decode_of-digits}
-use Rattle.script_text.specs.{Numbers.{number_of, node_of, vbucket_of, connection_of, moved_of, if_frames, frames_of, buffer_of}, Lines.{words_of}, Grammar.{if_decoded, hex_bytes_of, node_line, cut_line, two_words, clock_line, client_line, hang_line, up_line, down_line, pump_line, verb_of_vb, replica_line, vbucket_words, three_words, bytes_line, pull_line, promote_line, vbucket_of_four, plain_of_four, four_words, five_words, vb_line, link_mode, terms_in, linked, link_line, counted_verb, kept_of, filled_of, stop_line, fail_line, crash_line, start_line, branches_of, chain_words, verb_of}, Fitting.{AreBytes, VbFits, ClientFits}, Sayings.{IsHex, IsHexOf, Says, vb_word, vb_tail, client_word, ClientTail, link_words, mode_word}, declared.numbers.TheConstants.{NODES, VBUCKETS, CONNECTIONS, FRAMES, BUFFERS}}
+use Rattle.script_text.specs.{Numbers.{number_of, node_of, vbucket_of, connection_of, moved_of, if_frames, frames_of, buffer_of}, Lines.{words_of}, Grammar.{if_decoded, hex_bytes_of, node_line, link_alone, two_words, clock_line, client_line, hang_line, up_line, down_line, pump_line, verb_of_vb, replica_line, vbucket_words, three_words, bytes_line, pull_line, promote_line, vbucket_of_four, plain_of_four, four_words, five_words, vb_line, link_mode, terms_in, linked, link_line, counted_verb, kept_of, filled_of, stop_line, fail_line, crash_line, start_line, branches_of, chain_words, verb_of}, Fitting.{AreBytes, VbFits, ClientFits, LinkFits}, Sayings.{IsHex, IsHexOf, Says, vb_word, vb_tail, client_word, ClientTail, link_words, mode_word}, declared.numbers.TheConstants.{NODES, VBUCKETS, CONNECTIONS, FRAMES, BUFFERS}}
 use Rattle.script_text.specs.declared.verb.{Verb.{Verb}, VbVerb.{VbVerb}, NodeVerb.{NodeVerb}, LinkVerb.{LinkVerb}, ClientVerb.{ClientVerb}}
 use Rattle.script_text.specs.declared.verb.Verb.TheVariants as verb
 use Rattle.script_text.specs.declared.verb.VbVerb.TheVariants as vb_verb
@@ -32,10 +32,10 @@ node_spelled a v h =
     subst (λ v. Says (codes "node" ++ 32 ∷ a) v) node.2 (n.1, λ i. codes "node" ++ 32 ∷ n.0 i)
 
 -- a line that ends with the number of what it names
-cut_spelled : (a : List ℕ) (v : Verb) → cut_line a ≡ Some v → Says (codes "cut" ++ 32 ∷ a) v
-cut_spelled a v h =
-    subst (λ t. Says (codes "cut" ++ 32 ∷ t) v) (append-nil a)
-    (at_link (codes "cut") a [] (λ (k : ℕ). link_verb.Cut) (Some 0) v (λ k e. (refl, refl, tt)) (sym (then_made (λ l. verb.AtLink l link_verb.Cut) (connection_of a)) ∙ h))
+bare_link : (word a : List ℕ) (what : LinkVerb) (v : Verb) → word ≡ (link_words what).0 → [] ≡ (link_words what).1 → LinkFits what → link_alone what a ≡ Some v → Says (word ++ 32 ∷ a) v
+bare_link word a what v is none fits h =
+    subst (λ t. Says (word ++ 32 ∷ t) v) (append-nil a)
+    (at_link word a [] (λ (k : ℕ). what) (Some 0) v (λ k e. (is, none, fits)) (sym (then_made (λ l. verb.AtLink l what) (connection_of a)) ∙ h))
 
 bare_client : (word a b : List ℕ) (what : ClientVerb) (v : Verb) → word ≡ client_word what → ClientTail [] what → ClientFits what
     → option_and_then (λ n. option_map (λ x. verb.AtClient n x what) (connection_of b)) (node_of a) ≡ Some v → Says (word ++ 32 ∷ (a ++ 32 ∷ b)) v
@@ -47,7 +47,8 @@ bare_client word a b what v is none fits h =
 two_spelled : (word a : List ℕ) (v : Verb) → two_words word a ≡ Some v → Says (word ++ 32 ∷ a) v
 two_spelled word a v h =
     by_word word (codes "node") a (node_line a) _ v (node_spelled a v)
-    (by_word word (codes "cut") a (cut_line a) None v (cut_spelled a v) (no_verb (word ++ 32 ∷ a) v))
+    (by_word word (codes "cut") a (link_alone link_verb.Cut a) _ v (bare_link (codes "cut") a link_verb.Cut v refl refl tt)
+    (by_word word (codes "drop") a (link_alone link_verb.Drop a) None v (bare_link (codes "drop") a link_verb.Drop v refl refl tt) (no_verb (word ++ 32 ∷ a) v)))
     h
 
 -- what is asked of a vBucket is spelled by this word alone
@@ -69,11 +70,12 @@ asked_is word what h =
     (asked word (codes "dead") vb_verb.Dead what _ (refl, refl, tt)
     (asked word (codes "tick") vb_verb.Tick what _ (refl, refl, tt)
     (asked word (codes "seal") vb_verb.Seal what _ (refl, refl, tt)
+    (asked word (codes "trim") vb_verb.Trim what _ (refl, refl, tt)
     (asked word (codes "take") vb_verb.Take what _ (refl, refl, tt)
     (asked word (codes "save") vb_verb.Save what _ (refl, refl, tt)
     (asked word (codes "done") vb_verb.Done what _ (refl, refl, tt)
     (asked word (codes "stat") vb_verb.Stat what _ (refl, refl, tt)
-    (asked word (codes "log") vb_verb.Log what None (refl, refl, tt) (λ none. absurd (cc none)))))))))))
+    (asked word (codes "log") vb_verb.Log what None (refl, refl, tt) (λ none. absurd (cc none))))))))))))
     h
 
 vbucket_spelled : (word a b : List ℕ) (v : Verb) → vbucket_words word a b ≡ Some v → Says (word ++ 32 ∷ (a ++ 32 ∷ b)) v
@@ -287,6 +289,7 @@ vb_read line n k vb_verb.Follow h = plain_read line n k vb_verb.Follow refl (λ 
 vb_read line n k vb_verb.Dead h = plain_read line n k vb_verb.Dead refl (λ rest. refl, λ rest. refl) (λ a b. refl) h
 vb_read line n k vb_verb.Tick h = plain_read line n k vb_verb.Tick refl (λ rest. refl, λ rest. refl) (λ a b. refl) h
 vb_read line n k vb_verb.Seal h = plain_read line n k vb_verb.Seal refl (λ rest. refl, λ rest. refl) (λ a b. refl) h
+vb_read line n k vb_verb.Trim h = plain_read line n k vb_verb.Trim refl (λ rest. refl, λ rest. refl) (λ a b. refl) h
 vb_read line n k vb_verb.Take h = plain_read line n k vb_verb.Take refl (λ rest. refl, λ rest. refl) (λ a b. refl) h
 vb_read line n k vb_verb.Save h = plain_read line n k vb_verb.Save refl (λ rest. refl, λ rest. refl) (λ a b. refl) h
 vb_read line n k vb_verb.Done h = plain_read line n k vb_verb.Done refl (λ rest. refl, λ rest. refl) (λ a b. refl) h
@@ -335,6 +338,8 @@ link_read line l (link_verb.Down b) h =
 link_read line l (link_verb.Pump k) h =
     let low : k < 2 ^ 64 = omega (arith, h.0.1.1) in
     counted_read line l k link_verb.Pump (frames_of (decimal k)) low refl (in_frames k h.0.1.0 h.0.1.1 low) (λ rest. refl, λ rest. refl) (λ a. refl) h
+link_read line l link_verb.Drop h =
+    link_row line l link_verb.Drop [] (λ rest. refl, λ rest. refl) refl (λ a. then_made (λ l. verb.AtLink l link_verb.Drop) (connection_of a)) h
 link_read line l link_verb.Cut h =
     link_row line l link_verb.Cut [] (λ rest. refl, λ rest. refl) refl (λ a. then_made (λ l. verb.AtLink l link_verb.Cut) (connection_of a)) h
 

@@ -10,7 +10,7 @@ use Rattle.vb_types.specs.declared.role.Role.TheVariants as role
 use Rattle.script_text.specs.Numbers.{number_of}
 use Rattle.script_text.specs.Grammar.{terms_in}
 use Rattle.script_text.specs.Transcript.{act_text, cause_text, client_text, event_text, flag_text, level_text, link_text, place_text, reason_text, role_text, sent_text, spaced, why_text}
-use Rattle.script_text.specs.Wordings.{IsWordOf, LevelsInWords, ActsInWords, DurableWords, ChainsInWords, ChainsAreRead, ChainsAreRefused, AcknowledgementWords, SavingInWords, SavingWords, StopsInWords, StopWords, StopsAreRead, StopsAreRefused, WindowWords, StateWords, LinksAreRead, LinksAreRefused, PullsAreRead, PullsAreRefused}
+use Rattle.script_text.specs.Wordings.{IsWordOf, LevelsInWords, ActsInWords, DurableWords, ChainsInWords, ChainsAreRead, ChainsAreRefused, AcknowledgementWords, SavingInWords, SavingWords, StopsInWords, StopWords, StopsAreRead, StopsAreRefused, WindowWords, StateWords, LinksAreRead, LinksAreRefused, PullsAreRead, PullsAreRefused, TrimsAreRead, TrimsAreRefused}
 use Rattle.script_text.proofs.KindWords.{level_of, level_is, sent_of, sent_is, flag_of, flag_is, role_of, role_is, cause_of, cause_is, reason_of, reason_is, why_of, why_is}
 
 -- what is read back is the one thing of its word
@@ -86,6 +86,7 @@ savings = record {
   disk = word_of cause_of cause_text cause_is cause.Disk (codes "disk") refl;
   ended = word_of reason_of reason_text reason_is reason.Disk (codes "disk") refl;
   waits = word_of why_of why_text why_is why.WaitSaved (codes "wait-saved") refl;
+  unread = word_of why_of why_text why_is why.Disk (codes "disk") refl;
 }
 
 -- a place's two words are among the words of a line
@@ -101,6 +102,7 @@ saving_lines = record {
   stat = λ node vb windows items cursors saved high. place_in_line (codes "stat") node vb windows (decimal items ∷ decimal cursors ∷ decimal saved ∷ decimal high ∷ []);
   ended = λ link. refl;
   waits = λ frames. refl;
+  unread = λ frames. refl;
 }
 
 pub stops : StopsInWords
@@ -212,4 +214,30 @@ pulls_refused = record {
   pump_none = refl;
   pump_too_many = refl;
   pump_client = refl;
+}
+
+pub trims_read : TrimsAreRead
+unfolding number_of
+trims_read = record { trim = refl; trim_least = refl; trim_most = refl; drop = refl; drop_least = refl; drop_most = refl }
+
+pub trims_refused : TrimsAreRefused
+unfolding number_of
+trims_refused = record {
+  no_numbers = refl;
+  no_vb = refl;
+  more = refl;
+  node = refl;
+  vb = refl;
+  zeros = refl;
+  space = refl;
+  great_letter = refl;
+  other_word = refl;
+  no_link = refl;
+  drop_more = refl;
+  drop_link = refl;
+  drop_zeros = refl;
+  drop_space = refl;
+  drop_client = refl;
+  drop_great_letter = refl;
+  drop_other_word = refl;
 }

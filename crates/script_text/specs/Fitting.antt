@@ -75,6 +75,7 @@ abbrev pub LinkFits : LinkVerb → Type 0
 LinkFits (link_verb.Up bytes) = bytes ≤ 1000000000
 LinkFits (link_verb.Down bytes) = bytes ≤ 1000000000
 LinkFits (link_verb.Pump frames) = AreFrames frames
+LinkFits link_verb.Drop = Unit {0}
 LinkFits link_verb.Cut = Unit {0}
 
 -- The numbers of a line are those of its grammar. The limits are written out: a wrong constant in

@@ -12,6 +12,7 @@ use Rattle.script_text.specs.declared.verb.Verb.TheVariants as verb
 use Rattle.script_text.specs.declared.verb.VbVerb.{VbVerb}
 use Rattle.script_text.specs.declared.verb.VbVerb.TheVariants as vb_verb
 use Rattle.script_text.specs.declared.verb.NodeVerb.TheVariants as node_verb
+use Rattle.script_text.specs.declared.verb.LinkVerb.{LinkVerb}
 use Rattle.script_text.specs.declared.verb.LinkVerb.TheVariants as link_verb
 use Rattle.script_text.specs.declared.verb.ClientVerb.TheVariants as client_verb
 
@@ -28,15 +29,16 @@ hex_bytes_of text = if length text == 0 then None else if_decoded (decode_of tex
 abbrev pub node_line : List ℕ → Option Verb
 node_line node = option_map verb.Node (node_of node)
 
--- `cut L`
-abbrev pub cut_line : List ℕ → Option Verb
-cut_line link = option_map (λ l. verb.AtLink l link_verb.Cut) (connection_of link)
+-- a line that names a link and nothing more, by what it asks of it: `cut L`, `drop L`
+abbrev pub link_alone : LinkVerb → List ℕ → Option Verb
+link_alone what link = option_map (λ l. verb.AtLink l what) (connection_of link)
 
 -- a line of two words, by its first
 abbrev pub two_words : List ℕ → List ℕ → Option Verb
 two_words word a =
     if bytes_eq word (codes "node") then node_line a
-    else if bytes_eq word (codes "cut") then cut_line a
+    else if bytes_eq word (codes "cut") then link_alone link_verb.Cut a
+    else if bytes_eq word (codes "drop") then link_alone link_verb.Drop a
     else None
 
 -- `clock N T`
@@ -71,6 +73,7 @@ verb_of_vb word =
     else if bytes_eq word (codes "dead") then Some vb_verb.Dead
     else if bytes_eq word (codes "tick") then Some vb_verb.Tick
     else if bytes_eq word (codes "seal") then Some vb_verb.Seal
+    else if bytes_eq word (codes "trim") then Some vb_verb.Trim
     else if bytes_eq word (codes "take") then Some vb_verb.Take
     else if bytes_eq word (codes "save") then Some vb_verb.Save
     else if bytes_eq word (codes "done") then Some vb_verb.Done

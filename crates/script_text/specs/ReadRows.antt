@@ -113,3 +113,19 @@ pub record StatesBreakInLetters : Type 0 where
   pub waits_shorter : BreaksAt (codes "#1\nok 4 wait-\n") 2
   pub waits_alone : BreaksAt (codes "#1\nok wait-state\n") 2
   pub waits_more : BreaksAt (codes "#1\nok 4 wait-state 4\n") 2
+
+-- a pull that ends as a journal can't be read, with no frame, behind a marker of a disk snapshot, and with the most frames
+pub record UnreadInLetters : Type 0 where
+  pub none : IsTranscript (codes "#1\nok 0 disk\n") (pulled 1 [] 0 why.Disk ∷ [])
+  pub marked : IsTranscript (codes "#1\nmark L1 0 2 2\nok 1 disk\n") (pulled 1 (event.Marked (stream.Link 1) 0 2 2 ∷ []) 1 why.Disk ∷ [])
+  pub most : IsTranscript (codes "#1\nok 18446744073709551615 disk\n") (pulled 1 [] 18446744073709551615 why.Disk ∷ [])
+
+-- Other spellings of it: of another case, a word that goes on or stops short, no number, a word behind it, a space behind it, and zeros in front.
+pub record UnreadBreaksInLetters : Type 0 where
+  pub other_case : BreaksAt (codes "#1\nok 0 Disk\n") 2
+  pub longer : BreaksAt (codes "#1\nok 0 disks\n") 2
+  pub shorter : BreaksAt (codes "#1\nok 0 dis\n") 2
+  pub alone : BreaksAt (codes "#1\nok disk\n") 2
+  pub more : BreaksAt (codes "#1\nok 0 disk 0\n") 2
+  pub space : BreaksAt (codes "#1\nok 0 disk \n") 2
+  pub zeros : BreaksAt (codes "#1\nok 00 disk\n") 2

@@ -55,6 +55,7 @@ vb_word vb_verb.Follow = codes "follow"
 vb_word vb_verb.Dead = codes "dead"
 vb_word vb_verb.Tick = codes "tick"
 vb_word vb_verb.Seal = codes "seal"
+vb_word vb_verb.Trim = codes "trim"
 vb_word vb_verb.Take = codes "take"
 vb_word vb_verb.Save = codes "save"
 vb_word vb_verb.Done = codes "done"
@@ -88,6 +89,7 @@ abbrev pub link_words : LinkVerb → List ℕ × List ℕ
 link_words (link_verb.Up bytes) = (codes "up", codes " " ⧺ decimal bytes)
 link_words (link_verb.Down bytes) = (codes "down", codes " " ⧺ decimal bytes)
 link_words (link_verb.Pump frames) = (codes "pump", codes " " ⧺ decimal frames)
+link_words link_verb.Drop = (codes "drop", [])
 link_words link_verb.Cut = (codes "cut", [])
 
 -- the last word of a link's line, by whether it takes over

@@ -122,7 +122,8 @@ as_why word =
     else if bytes_eq word (codes "idle") then why.Idle
     else if bytes_eq word (codes "full") then why.Full
     else if bytes_eq word (codes "wait-state") then why.WaitState
-    else why.WaitSaved
+    else if bytes_eq word (codes "wait-saved") then why.WaitSaved
+    else why.Disk
 
 -- why a line was refused that has to do with nodes that stop, with saving, or with what is open
 abbrev pub as_later_cause : List ℕ → Cause

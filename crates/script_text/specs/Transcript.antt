@@ -239,6 +239,7 @@ why_text why.Idle = codes "idle"
 why_text why.Full = codes "full"
 why_text why.WaitState = codes "wait-state"
 why_text why.WaitSaved = codes "wait-saved"
+why_text why.Disk = codes "disk"
 
 -- the answer to a script line: `ok`, with its number or with what was put, or `no` and the cause
 abbrev pub answer_text : Answer → List ℕ

@@ -105,8 +105,9 @@ pub record SavingInWords : Type 0 where
   pub disk : IsWordOf Cause cause_text cause.Disk (codes "disk")
   pub ended : IsWordOf EndReason reason_text reason.Disk (codes "disk")
   pub waits : IsWordOf Why why_text why.WaitSaved (codes "wait-saved")
+  pub unread : IsWordOf Why why_text why.Disk (codes "disk")
 
--- a batch that is taken, the numbers of a vBucket, a link that ended as the disk failed, and a pull that waits, word by word
+-- a batch that is taken, the numbers of a vBucket, a link that ended as the disk failed, and a pull that waits or whose journal can't be read, word by word
 pub record SavingWords : Type 0 where
   pub batch : (node vb ss se at count : ℕ)
       → event_text (event.Batch node vb ss se at count) ≡ spaced (codes "batch" ∷ decimal node ∷ decimal vb ∷ decimal ss ∷ decimal se ∷ decimal at ∷ decimal count ∷ [])
@@ -115,6 +116,7 @@ pub record SavingWords : Type 0 where
       ≡ spaced (codes "stat" ∷ decimal node ∷ decimal vb ∷ decimal windows ∷ decimal items ∷ decimal cursors ∷ decimal saved ∷ decimal high ∷ [])
   pub ended : (link : ℕ) → event_text (event.Ended link reason.Disk) ≡ codes "end L" ++ decimal link ++ codes " disk"
   pub waits : (frames : ℕ) → answer_text (answer.Pulled frames why.WaitSaved) ≡ codes "ok " ++ decimal frames ++ codes " wait-saved"
+  pub unread : (frames : ℕ) → answer_text (answer.Pulled frames why.Disk) ≡ codes "ok " ++ decimal frames ++ codes " disk"
 
 -- why a line was refused that has to do with nodes that stop
 pub record StopsInWords : Type 0 where
@@ -229,3 +231,32 @@ pub record PullsAreRefused : Type 0 where
   pub pump_none : verb_by_letters (codes "pump 1 0") ≡ None
   pub pump_too_many : verb_by_letters (codes "pump 1 1000001") ≡ None
   pub pump_client : verb_by_letters (codes "pump 0 1 5") ≡ None
+
+-- lines that trim a vBucket and that drop a link's cursor, at their limits
+pub record TrimsAreRead : Type 0 where
+  pub trim : verb_by_letters (codes "trim 1 2") ≡ Some (verb.AtVb 1 2 vb_verb.Trim)
+  pub trim_least : verb_by_letters (codes "trim 0 0") ≡ Some (verb.AtVb 0 0 vb_verb.Trim)
+  pub trim_most : verb_by_letters (codes "trim 15 1023") ≡ Some (verb.AtVb 15 1023 vb_verb.Trim)
+  pub drop : verb_by_letters (codes "drop 1") ≡ Some (verb.AtLink 1 link_verb.Drop)
+  pub drop_least : verb_by_letters (codes "drop 0") ≡ Some (verb.AtLink 0 link_verb.Drop)
+  pub drop_most : verb_by_letters (codes "drop 999") ≡ Some (verb.AtLink 999 link_verb.Drop)
+
+-- lines beside them that say nothing
+pub record TrimsAreRefused : Type 0 where
+  pub no_numbers : verb_by_letters (codes "trim") ≡ None
+  pub no_vb : verb_by_letters (codes "trim 0") ≡ None
+  pub more : verb_by_letters (codes "trim 0 0 1") ≡ None
+  pub node : verb_by_letters (codes "trim 16 0") ≡ None
+  pub vb : verb_by_letters (codes "trim 0 1024") ≡ None
+  pub zeros : verb_by_letters (codes "trim 0 00") ≡ None
+  pub space : verb_by_letters (codes "trim 0 0 ") ≡ None
+  pub great_letter : verb_by_letters (codes "Trim 0 0") ≡ None
+  pub other_word : verb_by_letters (codes "trims 0 0") ≡ None
+  pub no_link : verb_by_letters (codes "drop") ≡ None
+  pub drop_more : verb_by_letters (codes "drop 1 1") ≡ None
+  pub drop_link : verb_by_letters (codes "drop 1000") ≡ None
+  pub drop_zeros : verb_by_letters (codes "drop 01") ≡ None
+  pub drop_space : verb_by_letters (codes "drop 1 ") ≡ None
+  pub drop_client : verb_by_letters (codes "drop 0.1") ≡ None
+  pub drop_great_letter : verb_by_letters (codes "Drop 1") ≡ None
+  pub drop_other_word : verb_by_letters (codes "drops 1") ≡ None

@@ -11,7 +11,7 @@ ghost use Rattle.script_text.specs.Ranges.{IsGroupRanged};
 ghost use Rattle.script_text.specs.Transcript.{hex_text, print_of};
 ghost use Rattle.vb_events.specs.declared.event.Group.{Group};
 ghost use Rattle.script_text.specs.Scripts.{line_said, IsScript, FirstBad};
-ghost use Rattle.script_text.specs.Wordings.{LevelsInWords, ActsInWords, DurableWords, ChainsInWords, ChainsAreRead, ChainsAreRefused, AcknowledgementWords, SavingInWords, SavingWords, StopsInWords, StopWords, StopsAreRead, StopsAreRefused, WindowWords, StateWords, LinksAreRead, LinksAreRefused, PullsAreRead, PullsAreRefused};
+ghost use Rattle.script_text.specs.Wordings.{LevelsInWords, ActsInWords, DurableWords, ChainsInWords, ChainsAreRead, ChainsAreRefused, AcknowledgementWords, SavingInWords, SavingWords, StopsInWords, StopWords, StopsAreRead, StopsAreRefused, WindowWords, StateWords, LinksAreRead, LinksAreRefused, PullsAreRead, PullsAreRefused, TrimsAreRead, TrimsAreRefused};
 ghost use Rattle.script_text.specs.Letters.{ChangesInLetters, ClientsInLetters, GroupsInLetters, StreamsInLetters, WordsInLetters};
 ghost use Rattle.script_text.specs.Printed.{CausesInLetters, LinesInLetters};
 ghost use Rattle.script_text.specs.declared.script.Said.TheVariants as said;
@@ -91,8 +91,8 @@ pub fn chains_in_words()
 {}
 
 /// What is saved and what is not is told by words of its own: `batch` and its numbers; `stat` and its
-/// numbers; `disk` where a link or a line ended as the disk failed; `wait-saved` where a pull waits;
-/// and the causes `batch-out`, `nothing-taken` and `closed`.
+/// numbers; `disk` where a link or a line ended as the disk failed, or a pull as a journal can't be
+/// read; `wait-saved` where a pull waits; and the causes `batch-out`, `nothing-taken` and `closed`.
 pub fn savings_in_words()
     ensures words { SavingInWords }
     ensures lines { SavingWords }
@@ -127,6 +127,13 @@ pub fn states_in_words()
 pub fn pulls_in_words()
     ensures read { PullsAreRead }
     ensures refused { PullsAreRefused }
+{}
+
+/// A vBucket gives up the front of its spans by `trim`, and a link's stream loses its cursor by `drop`.
+/// These lines say what they say by literal text, up to their limits, and nothing past these.
+pub fn trims_in_words()
+    ensures read { TrimsAreRead }
+    ensures refused { TrimsAreRefused }
 {}
 
 /// Lists of groups that print the same text are the same.

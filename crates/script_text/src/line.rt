@@ -1,6 +1,6 @@
 //! Reads a script line.
 ghost use Rattle.std.specs.Prelude.{◌≡◌, ◌==◌, map, take, IfOk};
-ghost use Rattle.script_text.specs.Grammar.{hex_bytes_of, two_words, three_words, clock_line, client_line, hang_line, up_line, down_line, pump_line, fail_line, crash_line, stop_line, verb_of_vb, vbucket_words, kept_of, filled_of, start_line, branches_of, member_of, members_of, others_of, chain_line, chain_words, bytes_line, pull_line, four_words, plain_of_four, vbucket_of_four, five_words, vb_line, link_mode, terms_in, linked, counted_verb, verb_of};
+ghost use Rattle.script_text.specs.Grammar.{hex_bytes_of, link_alone, two_words, three_words, clock_line, client_line, hang_line, up_line, down_line, pump_line, fail_line, crash_line, stop_line, verb_of_vb, vbucket_words, kept_of, filled_of, start_line, branches_of, member_of, members_of, others_of, chain_line, chain_words, bytes_line, pull_line, four_words, plain_of_four, vbucket_of_four, five_words, vb_line, link_mode, terms_in, linked, counted_verb, verb_of};
 ghost use Rattle.{std.specs.Str.{bytes_eq}, script_text.specs.Lines.{words_of}};
 ghost use Rattle.script_text.specs.Numbers.{numbers_of};
 
@@ -49,6 +49,14 @@ pub fn says(word: &[u8], name: &[u8]) -> bool
     word == name
 }
 
+/// What a line says that names a link and nothing more.
+fn link_alone(l: &[u8], what: LinkVerb) -> Option<Verb>
+    ensures { result ≡ link_alone what l.now }
+{
+    let link = connection(l)?;
+    Some(Verb::AtLink { link, what })
+}
+
 /// What a line of two words says.
 fn verb_of_two(word: &[u8], a: &[u8]) -> Option<Verb>
     ensures { result ≡ two_words word.now a.now }
@@ -56,11 +64,9 @@ fn verb_of_two(word: &[u8], a: &[u8]) -> Option<Verb>
     if says(word, b"node") {
         Some(Verb::Node { node: node(a)? })
     } else if says(word, b"cut") {
-        let link = connection(a)?;
-        Some(Verb::AtLink {
-            link,
-            what: LinkVerb::Cut,
-        })
+        link_alone(a, LinkVerb::Cut)
+    } else if says(word, b"drop") {
+        link_alone(a, LinkVerb::Drop)
     } else {
         None
     }
@@ -177,6 +183,8 @@ fn verb_of_vb(word: &[u8]) -> Option<VbVerb>
         Some(VbVerb::Tick)
     } else if says(word, b"seal") {
         Some(VbVerb::Seal)
+    } else if says(word, b"trim") {
+        Some(VbVerb::Trim)
     } else if says(word, b"take") {
         Some(VbVerb::Take)
     } else if says(word, b"save") {

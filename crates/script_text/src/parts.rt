@@ -389,6 +389,7 @@ pub fn why_word(why: Why) -> &'static str
         Why::Full => "full",
         Why::WaitState => "wait-state",
         Why::WaitSaved => "wait-saved",
+        Why::Disk => "disk",
     }
 }
 

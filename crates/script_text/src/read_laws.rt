@@ -8,7 +8,7 @@ ghost use Rattle.script_text.specs.Lines.{lines_of, ended};
 ghost use Rattle.script_text.specs.Transcript.{answer_text, event_text, print_of};
 ghost use Rattle.script_text.specs.Held.{IsAnswerHeld, IsEventHeld, IsGroupHeld};
 ghost use Rattle.script_text.specs.ReadBack.{IsPlain, IsTranscript, GoesOn, BreaksAt};
-ghost use Rattle.script_text.specs.ReadRows.{ReadInLetters, ClientsReadInLetters, StatesReadInLetters, BreaksInLetters, ClientsBreakInLetters, StatesBreakInLetters};
+ghost use Rattle.script_text.specs.ReadRows.{ReadInLetters, ClientsReadInLetters, StatesReadInLetters, BreaksInLetters, ClientsBreakInLetters, StatesBreakInLetters, UnreadInLetters, UnreadBreaksInLetters};
 
 /// The text of groups is a transcript, of these groups alone. Bytes are a transcript, or they break off
 /// at one line, and not both.
@@ -44,7 +44,8 @@ pub fn events_are_lines()
 /// Short texts that are transcripts, and short texts that break off: at an event or an answer outside
 /// a group, at a head inside one, at a last line with no newline, where the bytes end inside a group,
 /// and at lines that are spelled otherwise than they are printed. And the same of lines of the streams
-/// of clients, of states that are put on a stream, and of pulls that wait for the answer to one.
+/// of clients, of states that are put on a stream, of pulls that wait for the answer to one, and of pulls
+/// that end as a journal can't be read.
 pub fn read_in_letters()
     ensures read { ReadInLetters }
     ensures breaks { BreaksInLetters }
@@ -52,4 +53,6 @@ pub fn read_in_letters()
     ensures clients_break { ClientsBreakInLetters }
     ensures states { StatesReadInLetters }
     ensures states_break { StatesBreakInLetters }
+    ensures unread { UnreadInLetters }
+    ensures unread_breaks { UnreadBreaksInLetters }
 {}

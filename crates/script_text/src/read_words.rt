@@ -185,8 +185,10 @@ pub fn why(word: &[u8]) -> Why
         Why::Full
     } else if says(word, b"wait-state") {
         Why::WaitState
-    } else {
+    } else if says(word, b"wait-saved") {
         Why::WaitSaved
+    } else {
+        Why::Disk
     }
 }
 

@@ -82,6 +82,8 @@ pub enum VbVerb {
     Tick,
     /// `seal N V`: ends its open span.
     Seal,
+    /// `trim N V`: gives up the front of its sealed spans that nobody needs any more.
+    Trim,
     /// `take N V`: takes its next batch to be written down.
     Take,
     /// `save N V`: appends its batch to its journal.
@@ -118,6 +120,8 @@ pub enum LinkVerb {
     Down { bytes: u64 },
     /// `pump L K`: asks its producer for K stream frames.
     Pump { frames: u32 },
+    /// `drop L`: takes the cursor of its stream away, at its producer.
+    Drop,
     /// `cut L`: ends it. The bytes that are on their way are lost.
     Cut,
 }

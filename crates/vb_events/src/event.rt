@@ -233,6 +233,8 @@ pub enum Why {
     WaitState,
     /// A stream goes on once more of its vBucket is saved.
     WaitSaved,
+    /// The journal that a stream goes on from can't be read.
+    Disk,
 }
 
 /// Why a script line was refused.

@@ -1,4 +1,4 @@
-use Rattle.script_text.proofs.ReadRows.{read, breaks, clients, clients_break, states, states_break}
+use Rattle.script_text.proofs.ReadRows.{read, breaks, clients, clients_break, states, states_break, unread, unread_breaks}
 use Rattle.script_text.proofs.read_laws.read_in_letters.Goals as goal
 
 pub returns-clause-read : goal.returns-clause-read
@@ -18,3 +18,9 @@ returns-clause-states c = states
 
 pub returns-clause-states_break : goal.returns-clause-states_break
 returns-clause-states_break c = states_break
+
+pub returns-clause-unread : goal.returns-clause-unread
+returns-clause-unread c = unread
+
+pub returns-clause-unread_breaks : goal.returns-clause-unread_breaks
+returns-clause-unread_breaks c = unread_breaks
