@@ -43,6 +43,7 @@ module _ (L : List LogEntry → Type 0) (none : L []) where
     where
       by : (a : VbAnswer) → GaveLogs L a → L (log_of_answer a)
       by (answer.Asked said log high) gave = gave
+      by (answer.Opened log high from) gave = gave
       by other gave = none
 
   module _ (f : Frame) (node client : ℕ) (s : Served) (named : s.end.desk.stream ≡ name.Client node client) where
@@ -90,6 +91,7 @@ gives_any c (Some reply) = by reply.answer
   where
     by : (a : VbAnswer) → GaveLogs AnyLog a
     by (answer.Asked said log high) = tt
+    by (answer.Opened log high from) = tt
     by (answer.Logged log) = tt
     by other = tt
 

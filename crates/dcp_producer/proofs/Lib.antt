@@ -14,6 +14,7 @@ pub mod Acknowledging
 pub mod Early
 pub mod Kept
 pub mod Closing
+pub mod Dropping
 pub mod Walking
 pub mod Turning
 pub mod Endings

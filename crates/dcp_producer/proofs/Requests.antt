@@ -14,6 +14,8 @@ use Rattle.vb_calls.specs.Programs.{Made, Told, after}
 use Rattle.vb_types.specs.declared.stream.AskAnswer.{AskAnswer}
 use Rattle.vb_types.specs.declared.stream.AskAnswer.TheVariants as ask_answer
 use Rattle.vb_types.specs.declared.role.LogEntry.{LogEntry}
+use Rattle.vb_calls.specs.declared.calls.VbAnswer.{VbAnswer}
+use Rattle.vb_calls.specs.declared.calls.VbAnswer.TheVariants as answer
 use Rattle.vb_types.specs.declared.role.Role.{Role}
 use Rattle.vb_types.specs.declared.role.Role.TheVariants as role
 use Rattle.vb_types.specs.declared.status.Status.{Status}
@@ -210,43 +212,61 @@ module _ (f : Frame) (ask : StreamAsk) (s : Served) where
   for_it reply it = ap (λ o. verdict_with o (ask_verdict reply)) (none_refused s.end ask it.opened it.flags it.numbers)
 
   -- how the answer follows the reply
-  opened_replies : (reply : Option VbReply) → Replies f ask (s.end.asked + 1) s (opened_answered f ask s reply) reply
-  opened_replies reply = record {
-    told = λ r said log high there tells.
-        let log_is : log_of_reply reply ≡ log = ap log_of_reply there ∙ ap log_of_answer tells in
-        let high_is : high_of_reply reply ≡ high = ap high_of_reply there ∙ ap high_of_answer tells in (
+  abbrev Follows : ℕ → Served → List LogEntry → ℕ → AskAnswer → Type 0
+  Follows asked s' log high said = (verdict : AskAnswer) × AnsweredWith f ask asked s s' log high verdict × (IsForIt ask s → verdict ≡ said)
+
+  module _ (reply : Option VbReply) where
+    abbrev opened : Served
+    opened = opened_answered f ask s reply
+
+    opened_so : (r : VbReply) (a : VbAnswer) → reply ≡ Some r → r.answer ≡ a → Follows (s.end.asked + 1) opened (log_of_answer a) (high_of_answer a) (verdict_of a)
+    opened_so r a there tells =
+        let log_is : log_of_reply reply ≡ log_of_answer a = ap log_of_reply there ∙ ap log_of_answer tells in
+        let high_is : high_of_reply reply ≡ high_of_answer a = ap high_of_reply there ∙ ap high_of_answer tells in (
           ask_verdict reply,
-          subst (λ l. AnsweredWith f ask (s.end.asked + 1) s (opened_answered f ask s reply) l high (ask_verdict reply)) log_is
-              (subst (λ h. AnsweredWith f ask (s.end.asked + 1) s (opened_answered f ask s reply) (log_of_reply reply) h (ask_verdict reply)) high_is
+          subst (λ l. AnsweredWith f ask (s.end.asked + 1) s opened l (high_of_answer a) (ask_verdict reply)) log_is
+              (subst (λ h. AnsweredWith f ask (s.end.asked + 1) s opened (log_of_reply reply) h (ask_verdict reply)) high_is
               (opened_as f ask s (log_of_reply reply) (high_of_reply reply) (ask_verdict reply))),
           λ it. ap ask_verdict there ∙ ap verdict_of tells,
-        );
-    absent = λ none. (
-      ask_verdict reply,
-      subst (λ o. AnsweredWith f ask (s.end.asked + 1) s (opened_answered f ask s reply) (log_of_reply o) (high_of_reply o) (ask_verdict reply)) none
-          (opened_as f ask s (log_of_reply reply) (high_of_reply reply) (ask_verdict reply)),
-      λ it. ap ask_verdict none,
-    );
-  }
+        )
 
-  refused_replies : (reply : Option VbReply) → Replies f ask s.end.asked s (refused_answered f ask s reply) reply
-  refused_replies reply = record {
-    told = λ r said log high there tells.
-        let log_is : log_of_reply reply ≡ log = ap log_of_reply there ∙ ap log_of_answer tells in
-        let high_is : high_of_reply reply ≡ high = ap high_of_reply there ∙ ap high_of_answer tells in (
+    opened_replies : Replies f ask (s.end.asked + 1) s opened reply
+    opened_replies = record {
+      told = λ r said log high there tells. opened_so r (answer.Asked said log high) there tells;
+      opened = λ r log high from there tells. opened_so r (answer.Opened log high from) there tells;
+      absent = λ none. (
+        ask_verdict reply,
+        subst (λ o. AnsweredWith f ask (s.end.asked + 1) s opened (log_of_reply o) (high_of_reply o) (ask_verdict reply)) none
+            (opened_as f ask s (log_of_reply reply) (high_of_reply reply) (ask_verdict reply)),
+        λ it. ap ask_verdict none,
+      );
+    }
+
+    abbrev refused : Served
+    refused = refused_answered f ask s reply
+
+    refused_so : (r : VbReply) (a : VbAnswer) → reply ≡ Some r → r.answer ≡ a → Follows s.end.asked refused (log_of_answer a) (high_of_answer a) (verdict_of a)
+    refused_so r a there tells =
+        let log_is : log_of_reply reply ≡ log_of_answer a = ap log_of_reply there ∙ ap log_of_answer tells in
+        let high_is : high_of_reply reply ≡ high_of_answer a = ap high_of_reply there ∙ ap high_of_answer tells in (
           verdict reply,
-          subst (λ l. AnsweredWith f ask s.end.asked s (refused_answered f ask s reply) l high (verdict reply)) log_is
-              (subst (λ h. AnsweredWith f ask s.end.asked s (refused_answered f ask s reply) (log_of_reply reply) h (verdict reply)) high_is
+          subst (λ l. AnsweredWith f ask s.end.asked s refused l (high_of_answer a) (verdict reply)) log_is
+              (subst (λ h. AnsweredWith f ask s.end.asked s refused (log_of_reply reply) h (verdict reply)) high_is
               (refused_as f ask s (log_of_reply reply) (high_of_reply reply) (verdict reply))),
           λ it. for_it reply it ∙ ap ask_verdict there ∙ ap verdict_of tells,
-        );
-    absent = λ none. (
-      verdict reply,
-      subst (λ o. AnsweredWith f ask s.end.asked s (refused_answered f ask s reply) (log_of_reply o) (high_of_reply o) (verdict reply)) none
-          (refused_as f ask s (log_of_reply reply) (high_of_reply reply) (verdict reply)),
-      λ it. for_it reply it ∙ ap ask_verdict none,
-    );
-  }
+        )
+
+    refused_replies : Replies f ask s.end.asked s refused reply
+    refused_replies = record {
+      told = λ r said log high there tells. refused_so r (answer.Asked said log high) there tells;
+      opened = λ r log high from there tells. refused_so r (answer.Opened log high from) there tells;
+      absent = λ none. (
+        verdict reply,
+        subst (λ o. AnsweredWith f ask s.end.asked s refused (log_of_reply o) (high_of_reply o) (verdict reply)) none
+            (refused_as f ask s (log_of_reply reply) (high_of_reply reply) (verdict reply)),
+        λ it. for_it reply it ∙ ap ask_verdict none,
+      );
+    }
 
   -- the number that it is made under
   asks_own : opens s.end f.vb_or_status ask ≡ true → AsksFor f.vb_or_status ask s (next_stream s.end) (s.end.asked + 1) (is_sync s.end.handshake)

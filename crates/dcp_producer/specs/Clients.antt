@@ -86,6 +86,7 @@ IsShortLog log = ENTRY_LEN * length log < 2 ^ 32
 -- a vBucket tells no other log
 abbrev pub GaveLogs : (List LogEntry → Type 0) → VbAnswer → Type 0
 GaveLogs L (answer.Asked said log high) = L log
+GaveLogs L (answer.Opened log high from) = L log
 GaveLogs L (answer.Logged log) = L log
 GaveLogs L other = Unit {0}
 

@@ -14,6 +14,7 @@ pub mod Holding
 pub mod Requesting
 pub mod Counting
 pub mod Closing
+pub mod Dropping
 pub mod Turns
 pub mod AskingAll
 pub mod Endings

@@ -10,6 +10,7 @@ use Rattle.vb_types.specs.declared.stream.AskAnswer.{AskAnswer}
 use Rattle.vb_types.specs.declared.stream.AskAnswer.TheVariants as ask_answer
 use Rattle.vb_types.specs.declared.role.LogEntry.{LogEntry}
 use Rattle.vb_types.specs.declared.role.Role.TheVariants as role
+use Rattle.vb_types.specs.declared.stream.Place.{Place}
 use Rattle.vb_types.specs.declared.stream.StreamAsk.{StreamAsk}
 use Rattle.vb_events.specs.declared.event.Event.TheVariants as event
 use Rattle.vb_calls.specs.declared.calls.VbCall.TheVariants as call
@@ -81,10 +82,12 @@ pub record AsksFor (v : ℕ) (ask : StreamAsk) (s : Served) (id asked : ℕ) (sy
   pub held : (stream : PlainStream) → IsStreamOf v stream s.end.streams → (id ≡ 0) × (asked ≡ s.end.asked)
   pub synced : IsTrue sync ↔ ((name : Named) × IsGiven name × (s.end.handshake ≡ handshake.Open true name))
 
--- the answer to this reply of the vBucket: its log and its last seqno, and what it says, where the producer has nothing against the request; where there is no such vBucket, the refusal is that of one that is not active
+-- the answer to this reply of the vBucket: its log and its last seqno, and what it says, where the producer has nothing against the request; it goes on where the vBucket opened a stream; where there is no such vBucket, the refusal is that of one that is not active
 pub record Replies (f : Frame) (ask : StreamAsk) (asked : ℕ) (s s' : Served) (reply : Option VbReply) : Type 0 where
   pub told : (r : VbReply) (said : AskAnswer) (log : List LogEntry) (high : ℕ) → reply ≡ Some r → r.answer ≡ answer.Asked said log high
       → (verdict : AskAnswer) × AnsweredWith f ask asked s s' log high verdict × (IsForIt ask s → verdict ≡ said)
+  pub opened : (r : VbReply) (log : List LogEntry) (high : ℕ) (from : Place) → reply ≡ Some r → r.answer ≡ answer.Opened log high from
+      → (verdict : AskAnswer) × AnsweredWith f ask asked s s' log high verdict × (IsForIt ask s → verdict ≡ ask_answer.Go)
   pub absent : reply ≡ None → (verdict : AskAnswer) × AnsweredWith f ask asked s s' [] 0 verdict × (IsForIt ask s → verdict ≡ ask_answer.Refuse 7)
 
 -- of a request for a stream the vBucket that it names is asked once, and what it says of its log and its last seqno in that one reply is what the line and the answer say

@@ -154,6 +154,7 @@ refuse st = ask_answer.Refuse (status_code st)
 -- the failover log of a vBucket, as its answer tells it
 abbrev pub log_of_answer : VbAnswer → List LogEntry
 log_of_answer (answer.Asked said log high) = log
+log_of_answer (answer.Opened log high from) = log
 log_of_answer other = []
 
 -- the failover log, empty where there is no such vBucket
@@ -164,6 +165,7 @@ log_of_reply (Some reply) = log_of_answer reply.answer
 -- the last seqno that a vBucket has, as its answer tells it
 abbrev pub high_of_answer : VbAnswer → ℕ
 high_of_answer (answer.Asked said log high) = high
+high_of_answer (answer.Opened log high from) = high
 high_of_answer other = 0
 
 -- the last seqno, 0 where there is no such vBucket
@@ -171,9 +173,10 @@ abbrev pub high_of_reply : Option VbReply → ℕ
 high_of_reply None = 0
 high_of_reply (Some reply) = high_of_answer reply.answer
 
--- how a request for a stream was answered by its vBucket, which gives no other answer than this
+-- how a request for a stream was answered by its vBucket, which gives no other answers than these
 abbrev pub verdict_of : VbAnswer → AskAnswer
 verdict_of (answer.Asked said log high) = said
+verdict_of (answer.Opened log high from) = ask_answer.Go
 verdict_of other = refuse status.Einval
 
 -- where there is no such vBucket, the request is refused as at one that is not active

@@ -1,11 +1,11 @@
 //! A connection in a call: what it is, and what it told and put so far.
 ghost use Rattle.std.specs.Prelude.{◌≡◌, map, ◌<◌, ◌≤◌, ◌+◌, ◌*◌, ◌^◌, ◌==◌, OnOk, OnErr};
 ghost use Rattle.std.specs.{List.{All, position}, Option.{option_copied}};
-ghost use Rattle.{dcp_producer.specs.Ending.{ended_in, ended_by, streams_closed, end_closed}, vb_calls.specs.Programs.{Ran}};
+ghost use Rattle.{dcp_producer.specs.Dropping.{cursor_dropped}, dcp_producer.specs.Ending.{ended_in, ended_by, streams_closed, end_closed}, vb_calls.specs.Programs.{Ran}};
 ghost use Rattle.{dcp_producer.specs.Producers.{begun, new_end, stream_at, with_opened, without_id, without_stream}, dcp_producer.specs.Serving.{heard, with_event, with_frame, status_sent}, dcp_producer.specs.Wanting.{Sent}, mcbp_dcp.specs.DcpFrames.{dcp_frame, IsSpelled}};
 ghost use Rattle.{mcbp_dcp.specs.declared.message.DcpMsg.TheVariants.{StreamAnswer}, mcbp_dcp.specs.declared.message.StreamVerdict.TheVariants.{Refused}};
 
-use crate::{ActiveStream, Alloc, Asked, Desk, Handshake, close_stream};
+use crate::{ActiveStream, Alloc, Asked, Desk, Handshake, close_stream, drop_cursor};
 use bytes::{Bytes, BytesMut};
 use flow_control::{Ring, Window};
 use mcbp_dcp::{DcpMsg, Opcode, write_dcp};
@@ -170,6 +170,17 @@ impl Connection {
         ensures { Ran A.step (end_closed self.now.end) vbs.old tt vbs.new }
     {
         close_each(&self.streams, vbs);
+    }
+
+    /// Takes away the cursor of the stream of a vBucket, and says whether it had one. The number of one
+    /// that a change of role ended may be another stream's there.
+    pub fn drop_cursor<A: VbAccess>(&self, vbs: &mut A, vb: u16) -> bool
+        ensures { Ran A.step (cursor_dropped vb self.now.end) vbs.old result vbs.new }
+    {
+        match self.stream_at(vb) {
+            Some(stream) if !stream.is_ended() => drop_cursor(vbs, stream.vb, stream.id),
+            _ => false,
+        }
     }
 
     /// Takes out what was told and put, and begins to count again.

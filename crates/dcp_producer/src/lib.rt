@@ -42,7 +42,7 @@ pub use laws::{
     requests_are_one_call, requests_are_refused_in_order, requests_before_open,
 };
 use next_frame::{NextFrame, Waits};
-use producer::close_stream;
+use producer::{close_stream, drop_cursor};
 pub use producer::{Asked, Producer, Pulled};
 pub use pull_laws::{
     connections_stay_sound, lines_tell_their_frames, pulls_ask_little, pulls_take_turns,
@@ -52,7 +52,9 @@ pub use row_laws::{
     ends_come_behind_items, first_markers_in_numbers, items_are_put_in_turn, lost_streams_end,
     turns_in_order, windows_hold_at_their_edge,
 };
-pub use stream_laws::{closed_streams_are_silent, logs_are_answered, noops_are_answered};
+pub use stream_laws::{
+    closed_streams_are_silent, cursors_are_dropped, logs_are_answered, noops_are_answered,
+};
 pub use takeover_laws::{
     answers_of_states, states_in_bytes, takeovers_in_order, takeovers_in_rows, waits_in_order,
     yields_in_order,

@@ -1,10 +1,11 @@
 //! A producer, and what it is asked.
 ghost use Rattle.std.specs.Prelude.{◌≡◌, [], IfOk, OnErr, false, true};
-ghost use Rattle.{dcp_producer.specs.Ending.{ended_by, end_closed}, dcp_producer.specs.Producers.{new_end, begun}, dcp_producer.specs.Pulling.{frames_put}};
+ghost use Rattle.{dcp_producer.specs.Dropping.{cursor_dropped, flag_said}, dcp_producer.specs.Ending.{ended_by, end_closed}, dcp_producer.specs.Producers.{new_end, begun}, dcp_producer.specs.Pulling.{frames_put}};
 ghost use Rattle.{dcp_producer.specs.Serving.{frame_answered}, dcp_producer.specs.Giving.{given_up}, dcp_producer.specs.Wanting.{Cut, Remains, Stays}, vb_calls.specs.Programs.{Ran, Began, Call, Done}};
-ghost use Rattle.vb_calls.specs.declared.calls.VbCall.TheVariants.{CloseStream};
+ghost use Rattle.vb_calls.specs.declared.calls.VbCall.TheVariants.{CloseStream, DropCursor};
 
 use crate::pulls::Quiet;
+use crate::replies::flag_said;
 use crate::{Alloc, Connection, Desk, Halt, Yielded};
 use bytes::BytesMut;
 use mcbp_frame::Frame;
@@ -58,6 +59,16 @@ pub fn close_stream<A: VbAccess>(vbs: &mut A, vb: u16, id: u64)
 {
     match vbs.call(vb, VbCall::CloseStream { id }) {
         Ok(closed) => drop(closed),
+        Err(_) => unreachable!(),
+    }
+}
+
+/// Takes away the cursor of the stream of this number at a vBucket, and says whether it had one.
+pub fn drop_cursor<A: VbAccess>(vbs: &mut A, vb: u16, id: u64) -> bool
+    ensures { Ran A.step (Call vb (DropCursor id) (λ reply. Done (flag_said reply))) vbs.old result vbs.new }
+{
+    match vbs.call(vb, VbCall::DropCursor { id }) {
+        Ok(reply) => flag_said(reply),
         Err(_) => unreachable!(),
     }
 }
@@ -156,6 +167,14 @@ impl Producer {
         ensures spent { self.new.spent ≡ self.old.spent }
     {
         self.connection.end_streams(vb, ids);
+    }
+
+    /// Takes away the cursor of the stream of `vb`, and says whether it had one. There is none where
+    /// there is no such stream, or a change of role ended it.
+    pub fn drop_cursor<A: VbAccess>(&self, vbs: &mut A, vb: u16) -> bool
+        ensures { Ran A.step (cursor_dropped vb self.now.plain) vbs.old result vbs.new }
+    {
+        self.connection.drop_cursor(vbs, vb)
     }
 
     /// Closes the streams at their vBuckets, in the order in which they were opened. One that a

@@ -1,6 +1,6 @@
 //! What the replies of a vBucket say to a producer.
 ghost use Rattle.std.specs.Prelude.{◌≡◌};
-ghost use Rattle.{std.specs.Option.{option_map}, dcp_producer.specs.Frames.{place_said}, dcp_producer.specs.Serving.{log_given, IsSendable, log_of_reply, high_of_reply, ask_verdict, refuse, verdict_with}};
+ghost use Rattle.{std.specs.Option.{option_map}, dcp_producer.specs.Dropping.{flag_said}, dcp_producer.specs.Frames.{place_said}, dcp_producer.specs.Serving.{log_given, IsSendable, log_of_reply, high_of_reply, ask_verdict, refuse, verdict_with}};
 ghost use Rattle.{vb_calls.specs.Forms.{HasForm}, vb_calls.specs.declared.calls.VbCall.TheVariants.{Log}};
 
 use std::alloc::Global;
@@ -54,6 +54,7 @@ pub fn standing_of(alloc: Global, own: Option<Status>, reply: Option<VbReply>) -
 {
     let (said, log, high) = match answer_of(reply) {
         Some(VbAnswer::Asked { said, log, high }) => (said, log, high),
+        Some(VbAnswer::Opened { log, high, .. }) => (AskAnswer::Go, log, high),
         Some(other) => {
             drop(other);
             (refusal(Status::Einval), Listed::new(alloc), 0)
@@ -65,6 +66,19 @@ pub fn standing_of(alloc: Global, own: Option<Status>, reply: Option<VbReply>) -
         None => said,
     };
     Standing { said, log, high }
+}
+
+/// Whether a vBucket says that a stream had a cursor.
+pub fn flag_said(reply: Option<VbReply>) -> bool
+    ensures { result ≡ flag_said reply }
+{
+    match answer_of(reply) {
+        Some(VbAnswer::Flag(had)) => had,
+        other => {
+            drop(other);
+            false
+        }
+    }
 }
 
 /// Where a stream's next changes come from, if the vBucket says so.

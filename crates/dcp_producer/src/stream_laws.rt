@@ -1,8 +1,8 @@
-//! How a stream is closed, what its vBucket's log is answered as, and what NOOPs are answered; each law as
+//! How a stream is closed and how its cursor is taken away, what its vBucket's log is answered as, and what NOOPs are answered; each law as
 //! the contract of a function that does nothing.
-ghost use Rattle.std.specs.Prelude.{◌≡◌, ℕ, List, [], ◌∷◌};
-ghost use Rattle.dcp_producer.specs.{Closing.{ClosesIt, LogsBytes, OneLog}, Handshaking.{Gets}, Having.{IsOpened, IsSound, IsStreamOf, NoneOf}};
-ghost use Rattle.dcp_producer.specs.{Producers.{PlainStream, Served}, Serving.{message_answered}, declared.desk.Handshake.TheVariants.{Fresh}};
+ghost use Rattle.std.specs.Prelude.{◌≡◌, ℕ, Bool, false, List, [], ◌∷◌};
+ghost use Rattle.dcp_producer.specs.{Closing.{ClosesIt, LogsBytes, OneLog}, Dropping.{DropsIt, cursor_dropped}, Handshaking.{Gets}, Having.{IsOpened, IsSound, IsStreamOf, NoneOf}};
+ghost use Rattle.dcp_producer.specs.{Producers.{PlainProducer, PlainStream, Served}, Serving.{message_answered}, declared.desk.Handshake.TheVariants.{Fresh}};
 ghost use Rattle.mcbp_dcp.specs.MessageRows.{answer_head, log_answer_bytes, some_log};
 ghost use Rattle.mcbp_dcp.specs.declared.message.DcpMsg.TheVariants.{CloseStream, GetFailoverLog, Noop};
 ghost use Rattle.{mcbp_frame.specs.declared.frame.Frame.{Frame as FrameData}, vb_calls.specs.Programs.{Made, Told}};
@@ -17,6 +17,14 @@ pub fn closed_streams_are_silent()
         → Gets 1 s.end.handshake f s (message_answered f CloseStream s) }
     ensures closed { (f : FrameData) (s s' : Served) (stream : PlainStream) (made : List Made) → IsOpened s → IsSound s.end
         → IsStreamOf f.vb_or_status stream s.end.streams → Told (message_answered f CloseStream s) made s' → ClosesIt f stream s made s' }
+{}
+
+/// The cursor of a connection's stream is taken away by one call, of the stream's number, unless a change of
+/// role ended the stream. It had one exactly where its vBucket says so; where there is no call, as there is no
+/// such stream or it is ended, it had none.
+pub fn cursors_are_dropped()
+    ensures one { (v : ℕ) (end : PlainProducer) (stream : PlainStream) (made : List Made) (had : Bool) → IsStreamOf v stream end.streams → Told (cursor_dropped v end) made had → DropsIt v stream made had }
+    ensures none { (v : ℕ) (end : PlainProducer) (made : List Made) (had : Bool) → NoneOf v end.streams → Told (cursor_dropped v end) made had → (made ≡ []) × (had ≡ false) }
 {}
 
 /// GET_FAILOVER_LOG is Einval before OPEN, and else one call of the vBucket that it names, whatever its role.
