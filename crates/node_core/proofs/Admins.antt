@@ -36,6 +36,7 @@ noted_is n v (admin.Promote uuid) = refl
 noted_is n v admin.Follow = refl
 noted_is n v admin.Dead = refl
 noted_is n v admin.Seal = refl
+noted_is n v admin.Trim = refl
 noted_is n v admin.Stat = refl
 noted_is n v admin.Show = refl
 noted_is n v admin.Log = refl

@@ -20,6 +20,7 @@ refuses_nobody W J step asks = record {
   frames = λ key f old out new x. x;
   pulls = λ frames key old out new x. x;
   gives = λ frames key old out new x. x;
+  drops = λ v old out new x. x;
   shuts = λ key old out new x. x;
   dials = λ v piece old out new x. x;
   cuts = λ v old out new x. x;

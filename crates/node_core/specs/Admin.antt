@@ -45,6 +45,7 @@ admin_call (admin.Promote uuid) = call.Promote uuid
 admin_call admin.Follow = call.Follow
 admin_call admin.Dead = call.Dead
 admin_call admin.Seal = call.Seal
+admin_call admin.Trim = call.Trim
 admin_call admin.Stat = call.Stat
 admin_call admin.Show = call.Show
 admin_call admin.Log = call.Log
@@ -95,6 +96,11 @@ abbrev pub seal_result : VbAnswer → AdminResult
 seal_result (answer.Flag sealed) = record { events = []; answer = line.Number (if sealed then 1 else 0); ended = None; resolved = [] }
 seal_result other = admin_refused cause.WrongRole
 
+-- a Trim: how many spans it gave up
+abbrev pub trim_result : VbAnswer → AdminResult
+trim_result (answer.Num removed) = record { events = []; answer = line.Number removed; ended = None; resolved = [] }
+trim_result other = admin_refused cause.WrongRole
+
 -- a Show: the vBucket, its documents and its pending prepares
 abbrev pub show_result : ℕ → ℕ → VbAnswer → AdminResult
 show_result n v (answer.Shown role uuid ss se at image) = admin_lines (shown_line n v role uuid ss se at image ∷ image_lines image)
@@ -116,6 +122,7 @@ admin_replied n v (admin.Promote uuid) reply = promote_result n v reply reply.an
 admin_replied n v admin.Follow reply = role_result n v role.Replica reply reply.answer
 admin_replied n v admin.Dead reply = role_result n v role.Dead reply reply.answer
 admin_replied n v admin.Seal reply = seal_result reply.answer
+admin_replied n v admin.Trim reply = trim_result reply.answer
 admin_replied n v admin.Stat reply = stat_result n v reply.answer
 admin_replied n v admin.Show reply = show_result n v reply.answer
 admin_replied n v admin.Log reply = log_result n v reply.answer

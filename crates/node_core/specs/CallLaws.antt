@@ -13,7 +13,7 @@ use Rattle.node_core.specs.declared.node.Node.{Node}
 use Rattle.node_core.specs.declared.out.NodeOut.{NodeOut}
 use Rattle.node_core.specs.Clients.{KeptClient}
 use Rattle.node_core.specs.GivingUp.{GaveUpAt}
-use Rattle.node_core.specs.Outcomes.{ConnAnswered, ConnFed, ConnHeard, ConnPosted, DialDueAt, DialFedAt, DialShutAt, FedAt, PostedAt, AnsweredAt, PulledAt, ShutAt}
+use Rattle.node_core.specs.Outcomes.{ConnAnswered, ConnFed, ConnHeard, ConnPosted, DialDueAt, DialFedAt, DialShutAt, FedAt, PostedAt, AnsweredAt, PulledAt, DroppedAt, ShutAt}
 use Rattle.node_core.specs.Peers.{KeptPeer}
 use Rattle.vb_calls.specs.Shelves.{Ask, Got}
 
@@ -39,6 +39,7 @@ pub record RefusesNobody (W J : Type 0) (step : W → ℕ → VbCall → Option 
   pub frames : (key : ℕ) (f : Frame) (old : Node W J) (out : NodeOut) (new : Node W J) → AnsweredAt step key f None old out new → SaysAlone (line.No cause.LinkClosed) out × (new ≡ old)
   pub pulls : (frames key : ℕ) (old : Node W J) (out : NodeOut) (new : Node W J) → PulledAt step frames key None old out new → SaysAlone (line.No cause.LinkClosed) out × (new ≡ old)
   pub gives : (frames key : ℕ) (old : Node W J) (out : NodeOut) (new : Node W J) → GaveUpAt step frames key None old out new → SaysAlone (line.No cause.LinkClosed) out × (new ≡ old)
+  pub drops : (v : ℕ) (old : Node W J) (out : NodeOut) (new : Node W J) → DroppedAt step v None old out new → SaysAlone (line.No cause.LinkClosed) out × (new ≡ old)
   pub shuts : (key : ℕ) (old : Node W J) (out : NodeOut) (new : Node W J) → ShutAt step key None old out new → SaysAlone (line.No cause.LinkClosed) out × (new ≡ old)
   pub dials : (v : ℕ) (piece : List ℕ) (old : Node W J) (out : NodeOut) (new : Node W J) → DialFedAt step asks v piece None old out new → SaysAlone (line.No cause.LinkClosed) out × (new ≡ old)
   pub cuts : (v : ℕ) (old : Node W J) (out : NodeOut) (new : Node W J) → DialShutAt v None old out new → SaysAlone (line.No cause.LinkClosed) out × (new ≡ old)

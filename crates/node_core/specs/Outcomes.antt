@@ -6,7 +6,9 @@ use Rattle.std.specs.Map.{lookup}
 use Rattle.std.specs.Ordering.{nat_cmp}
 use Rattle.slab.specs.Slab.{get, Updates}
 use Rattle.client_session.specs.Serving.{awaits}
+use Rattle.dcp_producer.specs.Dropping.{cursor_dropped}
 use Rattle.dcp_producer.specs.Ending.{end_closed}
+use Rattle.dcp_producer.specs.Producers.{PlainProducer}
 use Rattle.dcp_consumer.specs.Dialing.{requests}
 use Rattle.dcp_consumer.specs.declared.handshake.Dialed.{Dialed as Link}
 use Rattle.vb_events.specs.declared.event.Cause.{Cause}
@@ -34,7 +36,7 @@ use Rattle.node_core.specs.Calls.{dial_requested}
 use Rattle.node_core.specs.Clients.{PlainClient, KeptClient, ClientPulled, Handling, new_client, client_fed, client_posted, client_pulled, client_ended}
 use Rattle.node_core.specs.Dials.{PlainDial, KeptDial, DialResult, new_dial, is_over, dial_bytes, dial_due}
 use Rattle.node_core.specs.Flushing.{FlushResult, flush_at}
-use Rattle.node_core.specs.Outs.{flush_out, refused_out, done_out, made_out, client_out, client_pull_out, peer_out, pull_out, dial_out, cut_out, dial_ended, admin_out}
+use Rattle.node_core.specs.Outs.{flush_out, refused_out, done_out, made_out, client_out, client_pull_out, peer_out, pull_out, dial_out, cut_out, dial_ended, admin_out, dropped_out}
 use Rattle.node_core.specs.Peers.{PlainPeer, KeptPeer, PeerResult, PullResult, new_peer, peer_heard, peer_frames, peer_answered, peer_pulled, peer_ended}
 use Rattle.mcbp_frame.specs.declared.frame.Frame.{Frame}
 use Rattle.vb_calls.specs.declared.calls.Resolved.{Resolved}
@@ -68,6 +70,11 @@ live_dial dial = record { plain = dial; spent = false }
 abbrev pub is_spent : Conn → Bool
 is_spent (conn.Client kept) = kept.spent
 is_spent (conn.Peer kept) = kept.spent
+
+-- the producer of a connection
+abbrev pub producer_in : Conn → PlainProducer
+producer_in (conn.Client kept) = kept.plain.producer
+producer_in (conn.Peer kept) = kept.plain.producer
 
 -- what is left of a connection where memory was short: a client's or a peer's as before, at its desk, and one that was spent before stays as it is
 abbrev pub LeftOf : Conn → Conn → Type 0
@@ -315,6 +322,18 @@ module _ {W J : Type 0} (step : W → ℕ → VbCall → Option VbReply → W �
   abbrev pub ShutAt : ℕ → Option Conn → Node W J → NodeOut → Node W J → Type 0
   ShutAt key None old out new = (out ≡ refused_out cause.LinkClosed) × (new ≡ old)
   ShutAt key (Some found) old out new = Shut key found old out new
+
+  -- the cursor of the stream of the vBucket v of a connection was taken away, spent or not, and it is told whether it had one
+  pub record Dropped (v : ℕ) (found : Conn) (old : Node W J) (out : NodeOut) (new : Node W J) : Type 0 where
+    pub had : Bool
+    pub ran : Ran step (cursor_dropped v (producer_in found)) old.vbs had new.vbs
+    pub said : out ≡ dropped_out had
+    pub rest : new ≡ record old { vbs = new.vbs }
+
+  -- the same of the connection of a key; where there is none, that is refused
+  abbrev pub DroppedAt : ℕ → Option Conn → Node W J → NodeOut → Node W J → Type 0
+  DroppedAt v None old out new = (out ≡ refused_out cause.LinkClosed) × (new ≡ old)
+  DroppedAt v (Some found) old out new = Dropped v found old out new
 
   -- a call to a vBucket that let it resolve durable writes
   pub record Settles (called : Prog FlushResult) (old : Node W J) (out : NodeOut) (new : Node W J) : Type 0 where

@@ -83,6 +83,10 @@ pull_out told = record { events = told.events; out = told.out; answer = told.ans
 abbrev pub pulled_by : PlainPeer → NodeOut → PullResult
 pulled_by peer out = record { peer = peer; events = out.events; out = out.out; answer = out.answer }
 
+-- what it hands out that a stream's cursor is taken away: whether it had one
+abbrev pub dropped_out : Bool → NodeOut
+dropped_out had = record { events = []; out = []; answer = answer.Number (if had then 1 else 0); closed = false; resolved = [] }
+
 -- the answer to bytes for a dial: a rollback or a takeover could not be written down, or they were taken
 abbrev pub dial_answer : Option EndReason → Answer
 dial_answer why = if is_broken why then answer.No cause.Disk else answer.Ok

@@ -15,6 +15,8 @@ pub enum AdminCall {
     Dead,
     /// That no change enters its open span any more.
     Seal,
+    /// That it gives up the front of its sealed spans that nobody needs any more.
+    Trim,
     /// Its numbers.
     Stat,
     /// What it holds.
@@ -44,6 +46,7 @@ impl AdminCall {
             AdminCall::Follow => VbCall::Follow,
             AdminCall::Dead => VbCall::Dead,
             AdminCall::Seal => VbCall::Seal,
+            AdminCall::Trim => VbCall::Trim,
             AdminCall::Stat => VbCall::Stat,
             AdminCall::Show => VbCall::Show,
             AdminCall::Log => VbCall::Log,

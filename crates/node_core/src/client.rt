@@ -1,6 +1,6 @@
 //! A client's connection: its session, and the producer of the streams that it asks for.
 ghost use Rattle.std.specs.Prelude.{◌≡◌, ◌++◌, false, true, take, drop, Some, None, IfOk, OnOk, OnErr};
-ghost use Rattle.{std.specs.List.{All}, client_session.specs.Serving.{awaits}, dcp_producer.specs.Ending.{end_closed}, node_core.specs.Outs.{client_out, client_pull_out, client_pulled_by, handling_by}};
+ghost use Rattle.{std.specs.List.{All}, client_session.specs.Serving.{awaits}, dcp_producer.specs.{Dropping.{cursor_dropped}, Ending.{end_closed}}, node_core.specs.Outs.{client_out, client_pull_out, client_pulled_by, handling_by}};
 ghost use Rattle.node_core.specs.Clients.{IsProducers, client_ended, client_fed, client_posted, client_pulled, closed_if, frames_passed, front_len, handling, new_client, passed_by, reply_alone, with_replies};
 ghost use Rattle.vb_calls.specs.Programs.{Ran, Began, More, bind};
 
@@ -267,6 +267,13 @@ impl Client {
         ensures { self.new ≡ record self.old { plain = client_ended vb ids.now self.old.plain } }
     {
         self.producer.ended(vb, ids);
+    }
+
+    /// Takes the cursor of its stream of the vBucket `vb` away: whether it had one.
+    pub fn drop_cursor<A: VbAccess>(&self, vbs: &mut A, vb: u16) -> bool
+        ensures { Ran A.step (cursor_dropped vb self.now.plain.producer) vbs.old result vbs.new }
+    {
+        self.producer.drop_cursor(vbs, vb)
     }
 
     /// Closes the streams at their vBuckets, since the connection ends.

@@ -1,6 +1,7 @@
 //! The connections that a node keeps.
 ghost use Rattle.std.specs.Prelude.{◌≡◌, ◌<◌, ℕ, true, IfOk, OnErr, None, Some};
-ghost use Rattle.{std.specs.Option.{option_map}, node_core.specs.Outcomes.{new_conn, is_spent, LeftOf, conn_ended, conn_awaits, kept_unless, ConnFed, ConnHeard, ConnStopped, ConnPosted, ConnUnposted, ConnAnswered, ConnUnanswered, ConnPulled, ConnHalted, ConnShut}};
+ghost use Rattle.{std.specs.Option.{option_map}, node_core.specs.Outcomes.{new_conn, is_spent, LeftOf, conn_ended, conn_awaits, kept_unless, ConnFed, ConnHeard, ConnStopped, ConnPosted, ConnUnposted, ConnAnswered, ConnUnanswered, ConnPulled, ConnHalted, ConnShut, producer_in}};
+ghost use Rattle.{dcp_producer.specs.Dropping.{cursor_dropped}, vb_calls.specs.Programs.{Ran}};
 ghost use Rattle.{node_core.specs.GivingUp.{ConnGaveUp, ConnUngiven, gave_of}, slab.specs.Slab.{get, HasRoomFor, Updates}};
 
 use crate::giving::Gave;
@@ -174,6 +175,16 @@ impl Conn {
         match self {
             Conn::Client(client) => client.ended(vb, ids),
             Conn::Peer(peer) => peer.ended(vb, ids),
+        }
+    }
+
+    /// Takes the cursor of its stream of the vBucket `vb` away: whether it had one.
+    pub fn drop_cursor<A: VbAccess>(&self, vbs: &mut A, vb: u16) -> bool
+        ensures { Ran A.step (cursor_dropped vb (producer_in self.now)) vbs.old result vbs.new }
+    {
+        match self {
+            Conn::Client(client) => client.drop_cursor(vbs, vb),
+            Conn::Peer(peer) => peer.drop_cursor(vbs, vb),
         }
     }
 

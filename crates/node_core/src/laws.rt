@@ -4,11 +4,11 @@ ghost use Rattle.std.specs.List.{All, flat_map};
 ghost use Rattle.{node_core.specs.Conduct.{FollowsAt, RollsAt, KeepsLink}, node_core.specs.Dials.{PlainDial, untold, is_over, with_left, with_last_line, dial_bytes}};
 ghost use Rattle.{node_core.specs.declared.node.TheConstants.{MAX_VBS}, vb_calls.specs.Jobs.{Ended, AlwaysJob, RanJob, after_job}, vb_calls.specs.Programs.{AnyReply, Ran}};
 ghost use Rattle.{durability.specs.Chains.{Links}, node_core.specs.Resolving.{DoneHandsOver, RoleHandsOver, Settled, StepHandsOver}, vb_calls.specs.Shelves.{Shelves}, vb_calls.specs.States.{States}};
-ghost use Rattle.{node_core.specs.Admin.{AdminResult, admin_job, admin_lines, admin_result, stat_result}, node_core.specs.Flushing.{FlushResult, activity_of_reply, chain_changed, flush_answered, flush_at, flush_result, ticked}, node_core.specs.Noting.{Gives, ChangesRole, FlushesAt, NotesFirst}};
+ghost use Rattle.{node_core.specs.Admin.{AdminResult, admin_job, admin_lines, admin_result, stat_result, trim_result}, node_core.specs.Flushing.{FlushResult, activity_of_reply, chain_changed, flush_answered, flush_at, flush_result, ticked}, node_core.specs.Noting.{Gives, ChangesRole, FlushesAt, NotesFirst}};
 ghost use Rattle.{node_core.specs.declared.admin.AdminCall.{AdminCall as TheCall}, vb_types.specs.declared.role.Role.{Role as TheRole}, vb_types.specs.declared.journal.FlushPart.{FlushPart as ThePart}};
 ghost use Rattle.{node_core.specs.Calls.{branch_lines}, node_core.specs.Loading.{start_result}, vb_calls.specs.declared.calls.Resolved.{Resolved as Outcome}, vb_types.specs.declared.change.Change.{Change}};
 ghost use Rattle.{mcbp_frame.specs.Cutting.{frames_in, left_of}, node_core.specs.Conduct.{AnyOther, DueNext, CallsAs, Acknowledged, Delivers, begins}, node_core.specs.Dials.{dial_due}, vb_calls.specs.Jobs.{lift}, vb_calls.specs.Programs.{Done}};
-ghost use Rattle.{dcp_producer.specs.Producers.{Served as Put}, node_core.specs.Peers.{pull_result}};
+ghost use Rattle.{dcp_producer.specs.Producers.{Served as Put}, node_core.specs.{Outs.{dropped_out}, Peers.{pull_result}}};
 ghost use Rattle.{dcp_consumer.specs.{Machine.{over_why}, Noops.{noop_answered, IsNoop}}, mcbp_frame.specs.{Cutting.{front_fault}, declared.frame.Frame.{Frame as FrameData}}, node_core.specs.Dials.{DialResult, frames_taken}, vb_calls.specs.Jobs.{bind_job}};
 ghost use Rattle.dcp_consumer.specs.declared.handshake.Handshake.TheVariants as handshake;
 ghost use Rattle.dcp_producer.specs.declared.halt.Halt.TheVariants as halt;
@@ -143,11 +143,13 @@ pub fn makings_in_numbers()
     ensures replica { branch_lines 1 2 role.Replica 3 ≡ event.Role 1 2 role.Replica ∷ [] }
 {}
 
-/// What is told of a Stat and of a step of writing down, with numbers of which no two are alike;
-/// whether a vBucket is active, by its refusal of the branch 0: one that is not takes the id for bad;
+/// What is told of a Stat, of a Trim and of a step of writing down, with numbers of which no two are
+/// alike; whether a stream had the cursor that was taken away from it; whether a vBucket is active, by its refusal of the branch 0: one that is not takes the id for bad;
 /// and why a pull put no more, beside how many frames it put.
 pub fn told_in_numbers()
     ensures stat { stat_result 1 2 (answer.Stat 3 4 5 6 7) ≡ admin_lines (event.Stat 1 2 3 4 5 6 7 ∷ []) }
+    ensures trimmed { trim_result (answer.Num 8) ≡ record { events = []; answer = line.Number 8; ended = None; resolved = [] } }
+    ensures dropped { (dropped_out true ≡ record { events = []; out = []; answer = line.Number 1; closed = false; resolved = [] }) × (dropped_out false ≡ record { events = []; out = []; answer = line.Number 0; closed = false; resolved = [] }) }
     ensures took { flush_result 1 2 (flushed.Took 3 4 5 6) ≡ record { events = event.Batch 1 2 3 4 5 6 ∷ []; answer = line.Number 6; resolved = [] } }
     ensures none { flush_result 1 2 (flushed.Took 0 0 0 0) ≡ flush_answered (line.Number 0) }
     ensures saved { flush_result 1 2 flushed.Saved ≡ flush_answered line.Ok }

@@ -1,7 +1,7 @@
 //! A node: the vBuckets that it reaches, its connections, and the dials of its vBuckets.
 ghost use Rattle.std.specs.Prelude.{◌≡◌, ◌≢◌, ◌<◌, ◌&&◌, ◌⊎◌, [], Ok, not, IfOk, OnErr, is_some};
 ghost use Rattle.node_core.specs.Calls.{branch_lines, ask_of_reply, ask_if, dial_requested};
-ghost use Rattle.node_core.specs.Outcomes.{value_at, Made, HalfMade, Opened, FedAt, Stopped, Heard, Unheard, AnsweredAt, Unanswered, PostedAt, Unposted, conn_awaits, DialDueAt, DialUndue, PulledAt, Halted, ShutAt, Dialed, DialedAs, DialFedAt, DialStopped, DialShutAt};
+ghost use Rattle.node_core.specs.Outcomes.{value_at, Made, HalfMade, Opened, FedAt, Stopped, Heard, Unheard, AnsweredAt, Unanswered, PostedAt, Unposted, conn_awaits, DialDueAt, DialUndue, PulledAt, Halted, ShutAt, DroppedAt, Dialed, DialedAs, DialFedAt, DialStopped, DialShutAt};
 ghost use Rattle.{node_core.specs.GivingUp.{GaveUpAt, Ungiven}, node_core.specs.Outs.{is_gone, made_unless}, slab.specs.Slab.{get}, vb_calls.specs.Programs.{Began}, vb_calls.specs.State.{first_log}};
 ghost use Rattle.{vb_types.specs.declared.journal.Record.TheVariants.{State}, vb_types.specs.declared.role.Role.TheVariants.{Active, Pending}};
 
@@ -23,7 +23,7 @@ use slab::Slab;
 pub use starts::Started;
 use std::alloc::Global;
 use vb_calls::{Journals, Resolved, VbAccess, VbAnswer, VbCall, VbReply, Wrote};
-use vb_events::{Cause, Event};
+use vb_events::{Answer, Cause, Event};
 use vb_types::{Listed, LogEntry, Record, Role, StreamAsk};
 
 /// How many vBuckets a node may have.
@@ -292,6 +292,18 @@ impl<A: VbAccess, J: Journals> Node<A, J> {
         } = gave?;
         tell_given(&mut self.conns, given.as_slice());
         Ok(NodeOut::done(self.alloc, lines, Bytes::new()).resolving(resolved))
+    }
+
+    /// Takes the cursor of a connection's stream of a vBucket away, spent or not, and answers 1 where it
+    /// had one, and else 0. It is refused exactly where no connection has that key.
+    pub fn drop_cursor(&mut self, key: usize, v: u16) -> NodeOut
+        ensures { DroppedAt A.step v (get self.old.conns key) self.old result self.new }
+    {
+        let Some(conn) = self.conns.get(key) else {
+            return NodeOut::refused(self.alloc, Cause::LinkClosed);
+        };
+        let had = conn.drop_cursor(&mut self.vbs, v);
+        NodeOut::answered(self.alloc, Answer::Number(u64::from(had)))
     }
 
     /// Lets a connection go, spent or not, and closes its streams. It is refused where none is.

@@ -1,6 +1,6 @@
 //! A peer's connection.
 ghost use Rattle.std.specs.Prelude.{◌≡◌, false, true, [], IfOk, OnOk, OnErr};
-ghost use Rattle.{dcp_producer.specs.Ending.{end_closed}, node_core.specs.Outs.{peer_out, peer_result_by, pulled_by}, node_core.specs.Peers.{new_peer, peer_heard, peer_frames, peer_answered, peer_pulled, peer_ended}};
+ghost use Rattle.{dcp_producer.specs.{Dropping.{cursor_dropped}, Ending.{end_closed}}, node_core.specs.Outs.{peer_out, peer_result_by, pulled_by}, node_core.specs.Peers.{new_peer, peer_heard, peer_frames, peer_answered, peer_pulled, peer_ended}};
 ghost use Rattle.{node_core.specs.GivingUp.{gave_of, peer_gives_up}, vb_calls.specs.Programs.{Ran, Began}};
 
 use crate::giving::Gave;
@@ -142,6 +142,13 @@ impl Peer {
         ensures { self.new ≡ record self.old { plain = peer_ended vb ids.now self.old.plain } }
     {
         self.producer.ended(vb, ids);
+    }
+
+    /// Takes the cursor of its stream of the vBucket `vb` away: whether it had one.
+    pub fn drop_cursor<A: VbAccess>(&self, vbs: &mut A, vb: u16) -> bool
+        ensures { Ran A.step (cursor_dropped vb self.now.plain.producer) vbs.old result vbs.new }
+    {
+        self.producer.drop_cursor(vbs, vb)
     }
 
     /// Closes the streams at their vBuckets, since the connection ends.

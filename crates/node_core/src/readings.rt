@@ -1,6 +1,6 @@
 //! What an operator's calls told.
 ghost use Rattle.std.specs.Prelude.{◌≡◌, ◌≢◌, ◌∷◌, [], true, None, IfOk, OnErr};
-ghost use Rattle.{node_core.specs.Admin.{changes_role, MadeChanges, seal_result, stat_result, log_result, admin_replied, admin_result}, node_core.specs.Outs.{admin_out, done_out, Tells}};
+ghost use Rattle.{node_core.specs.Admin.{changes_role, MadeChanges, seal_result, trim_result, stat_result, log_result, admin_replied, admin_result}, node_core.specs.Outs.{admin_out, done_out, Tells}};
 ghost use Rattle.vb_events.specs.declared.event.Event.TheVariants.{Logged};
 
 use crate::roles::{AdminResult, promoted, role_result_of};
@@ -18,6 +18,16 @@ fn seal_out(alloc: Global, answer: &VbAnswer) -> NodeOut
 {
     match answer {
         VbAnswer::Flag(sealed) => NodeOut::answered(alloc, Answer::Number(u64::from(*sealed))),
+        _ => NodeOut::refused(alloc, Cause::WrongRole),
+    }
+}
+
+/// What a Trim comes to.
+fn trim_out(alloc: Global, answer: &VbAnswer) -> NodeOut
+    ensures { result ≡ admin_out None (trim_result answer.now) }
+{
+    match answer {
+        VbAnswer::Num(removed) => NodeOut::answered(alloc, Answer::Number(*removed)),
         _ => NodeOut::refused(alloc, Cause::WrongRole),
     }
 }
@@ -82,6 +92,11 @@ fn replied(alloc: Global, node: u8, vb: u16, call: AdminCall, reply: VbReply) ->
         AdminCall::Dead => Ok(role_result_of(alloc, node, vb, Role::Dead, reply)),
         AdminCall::Seal => {
             let out = seal_out(alloc, &reply.answer);
+            drop(reply);
+            Ok(AdminResult::Out(out))
+        }
+        AdminCall::Trim => {
+            let out = trim_out(alloc, &reply.answer);
             drop(reply);
             Ok(AdminResult::Out(out))
         }

@@ -25,7 +25,7 @@ const SERVED: [Step; 9] = [
 const SERVED_LINES: [Told; 2] = [Told::Closed(6), Told::Noop];
 
 // A vBucket is made once, and shown.
-const MADE: [Step; 6] = [
+const MADE: [Step; 7] = [
     (
         Do::Admin(AdminCall::Show),
         b"",
@@ -35,6 +35,7 @@ const MADE: [Step; 6] = [
     (Do::Replicate, b"", Answer::No(Cause::VbExists)),
     (Do::Admin(AdminCall::Show), b"", Answer::Ok),
     (Do::Admin(AdminCall::Seal), b"", Answer::Number(0)),
+    (Do::Admin(AdminCall::Trim), b"", Answer::Number(0)),
     (Do::Dial, b"", Answer::No(Cause::WrongRole)),
 ];
 

@@ -1,6 +1,7 @@
 -- the calls of a node that are of a connection
-use Rattle.std.proofs.Common.{◌≡◌, ◌∙◌, ℕ, List, Option, Some, None, ap}
+use Rattle.std.proofs.Common.{◌≡◌, ◌∙◌, ℕ, Bool, List, Option, Some, None, ap}
 use Rattle.slab.specs.Slab.{get}
+use Rattle.dcp_producer.specs.Dropping.{cursor_dropped}
 use Rattle.mcbp_frame.specs.declared.frame.Frame.{Frame}
 use Rattle.vb_calls.specs.declared.calls.VbCall.{VbCall}
 use Rattle.vb_calls.specs.declared.calls.VbReply.{VbReply}
@@ -13,11 +14,11 @@ use Rattle.node_core.specs.declared.out.NodeOut.{NodeOut}
 use Rattle.node_core.specs.Clients.{Handling, ClientPulled, client_fed, client_posted, client_pulled}
 use Rattle.dcp_producer.specs.declared.yields.Yielded.{Yielded}
 use Rattle.node_core.specs.GivingUp.{GaveUpAt, ConnGaveUp, ConnUngiven, GiveResult, given_out, peer_gives_up}
-use Rattle.node_core.specs.Outcomes.{FedAt, ConnFed, ConnStopped, PostedAt, ConnPosted, ConnUnposted, AnsweredAt, ConnAnswered, ConnUnanswered, PulledAt, ConnPulled, ConnHalted}
-use Rattle.node_core.specs.Outs.{client_out, client_pull_out, peer_out, pull_out}
+use Rattle.node_core.specs.Outcomes.{FedAt, ConnFed, ConnStopped, PostedAt, ConnPosted, ConnUnposted, AnsweredAt, ConnAnswered, ConnUnanswered, PulledAt, ConnPulled, ConnHalted, DroppedAt, producer_in}
+use Rattle.node_core.specs.Outs.{client_out, client_pull_out, peer_out, pull_out, dropped_out}
 use Rattle.node_core.specs.Peers.{PeerResult, PullResult, peer_answered, peer_pulled}
-use Rattle.node_told.specs.Told.{PieceTold, PieceBegan, OutcomeTold, OutcomeBegan, AnswerTold, AnswerBegan, PullTold, PullBegan, YieldTold, YieldBegan}
-use Rattle.node_told.specs.Laws.{PiecesAreTold, OutcomesAreTold, AnswersAreTold, PullsAreTold, YieldsAreTold, HearingCallsNothing}
+use Rattle.node_told.specs.Told.{PieceTold, PieceBegan, OutcomeTold, OutcomeBegan, AnswerTold, AnswerBegan, PullTold, PullBegan, YieldTold, YieldBegan, DropTold}
+use Rattle.node_told.specs.Laws.{PiecesAreTold, OutcomesAreTold, AnswersAreTold, PullsAreTold, YieldsAreTold, DropsAreTold, HearingCallsNothing}
 use Rattle.node_told.proofs.Ran.{quiet, told, first}
 
 abbrev vbs_of : {W J : Type 0} → Node W J → W
@@ -128,3 +129,10 @@ module _ {W J : Type 0} (step : W → ℕ → VbCall → Option VbReply → W �
     given = λ frames key old out new g. gave frames key (get old.conns key) old out new g;
     stopped = λ frames key old new s. (s.found, s.had, ungiven step mine lists frames s.found old.vbs new.vbs s.ungiven);
   }
+
+  dropped : (v : ℕ) (found : Option Conn) (old : Node W J) (out : NodeOut) (new : Node W J) → DroppedAt step v found old out new → DropTold mine v found out old.vbs new.vbs
+  dropped v None old out new d = (d.0, quiet mine old.vbs new.vbs (ap vbs_of d.1))
+  dropped v (Some found) old out new d = told step mine lists (cursor_dropped v (producer_in found)) (λ (had : Bool). out ≡ dropped_out had) old.vbs d.had new.vbs d.ran d.said
+
+  pub drops : DropsAreTold J step mine
+  drops = record { dropped = λ v key old out new d. dropped v (get old.conns key) old out new d }

@@ -20,9 +20,9 @@ use Rattle.node_core.specs.Admin.{admin_job}
 use Rattle.node_core.specs.Dials.{KeptDial, dial_bytes, dial_due}
 use Rattle.node_core.specs.Flushing.{chain_changed, flush_at, ticked}
 use Rattle.node_core.specs.GivingUp.{GaveUpAt, Ungiven}
-use Rattle.node_core.specs.Outcomes.{value_at, FedAt, Stopped, Heard, Unheard, PostedAt, Unposted, AnsweredAt, Unanswered, PulledAt, Halted, DialDueAt, DialFedAt, DialStopped, DialUndue, Administered, Settles, Wrote, Made, HalfMade}
+use Rattle.node_core.specs.Outcomes.{value_at, FedAt, Stopped, Heard, Unheard, PostedAt, Unposted, AnsweredAt, Unanswered, PulledAt, Halted, DroppedAt, DialDueAt, DialFedAt, DialStopped, DialUndue, Administered, Settles, Wrote, Made, HalfMade}
 use Rattle.node_core.specs.Outs.{refused_out, made_out, flush_out, dial_ended, admin_out}
-use Rattle.node_told.specs.Told.{FirstOfJob, ToldOfJob, Quiet, PieceTold, PieceBegan, OutcomeTold, OutcomeBegan, AnswerTold, AnswerBegan, PullTold, PullBegan, YieldTold, YieldBegan, DialTold, DueTold, FirstOfProg, ToldProg}
+use Rattle.node_told.specs.Told.{FirstOfJob, ToldOfJob, Quiet, PieceTold, PieceBegan, OutcomeTold, OutcomeBegan, AnswerTold, AnswerBegan, PullTold, PullBegan, YieldTold, YieldBegan, DropTold, DialTold, DueTold, FirstOfProg, ToldProg}
 
 module _ {W : Type 0} (J : Type 0) (mine : W → ℕ → List (VbCall × VbReply)) where
   -- bytes of a peer
@@ -55,6 +55,10 @@ module _ {W : Type 0} (J : Type 0) (step : W → ℕ → VbCall → Option VbRep
   pub record YieldsAreTold : Type 0 where
     pub given : (frames key : ℕ) (old : Node W J) (out : NodeOut) (new : Node W J) → GaveUpAt step frames key (get old.conns key) old out new → YieldTold mine old.number frames (get old.conns key) out old.vbs new.vbs
     pub stopped : (frames key : ℕ) (old new : Node W J) → Ungiven step frames key old new → (found : Conn) × (get old.conns key ≡ Some found) × YieldBegan mine frames found old.vbs new.vbs
+
+  -- a stream's cursor that is taken away
+  pub record DropsAreTold : Type 0 where
+    pub dropped : (v key : ℕ) (old : Node W J) (out : NodeOut) (new : Node W J) → DroppedAt step v (get old.conns key) old out new → DropTold mine v (get old.conns key) out old.vbs new.vbs
 
   -- a chain that is set, and a tick
   pub record SettlesAreTold : Type 0 where

@@ -6,6 +6,7 @@ use Rattle.vb_calls.specs.declared.calls.Resolved.{Resolved}
 use Rattle.vb_calls.specs.Programs.{Prog, Made, Told, FirstCalls}
 use Rattle.vb_calls.specs.Jobs.{Job}
 use Rattle.vb_events.specs.declared.event.Cause.TheVariants as cause
+use Rattle.dcp_producer.specs.Dropping.{cursor_dropped}
 use Rattle.mcbp_frame.specs.declared.frame.Frame.{Frame}
 use Rattle.vb_told.specs.Told.{ToldJob, FirstJobCalls, Gained}
 use Rattle.node_core.specs.declared.conn.Conn.{Conn}
@@ -14,7 +15,8 @@ use Rattle.node_core.specs.declared.out.NodeOut.{NodeOut}
 use Rattle.node_core.specs.Clients.{client_fed, client_posted, client_pulled}
 use Rattle.node_core.specs.Dials.{KeptDial, dial_bytes, dial_due}
 use Rattle.node_core.specs.GivingUp.{given_out, peer_gives_up}
-use Rattle.node_core.specs.Outs.{done_out, refused_out, client_out, client_pull_out, peer_out, pull_out, dial_out}
+use Rattle.node_core.specs.Outcomes.{producer_in}
+use Rattle.node_core.specs.Outs.{done_out, refused_out, client_out, client_pull_out, peer_out, pull_out, dial_out, dropped_out}
 use Rattle.node_core.specs.Peers.{peer_answered, peer_pulled}
 
 module _ {W : Type 0} (mine : W → ℕ → List (VbCall × VbReply)) where
@@ -104,6 +106,11 @@ module _ {W : Type 0} (mine : W → ℕ → List (VbCall × VbReply)) where
   abbrev pub YieldBegan : ℕ → Conn → W → W → Type 0
   YieldBegan frames (conn.Client kept) old new = ⊥
   YieldBegan frames (conn.Peer kept) old new = FirstOfProg (peer_gives_up frames kept.plain) old new
+
+  -- the cursor of a connection's stream of the vBucket v was taken away. Where there is no connection, that is refused
+  abbrev pub DropTold : ℕ → Option Conn → NodeOut → W → W → Type 0
+  DropTold v (Some found) out old new = ToldProg (cursor_dropped v (producer_in found)) (λ had. out ≡ dropped_out had) old new
+  DropTold v None out old new = Refused out old new
 
   -- a dial was given bytes. Where there is none, they are refused
   abbrev pub DialTold : List ℕ → Option KeptDial → NodeOut → W → W → Type 0

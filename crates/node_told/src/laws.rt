@@ -5,7 +5,7 @@ ghost use Rattle.vb_calls.specs.declared.calls.VbCall.{VbCall};
 ghost use Rattle.vb_calls.specs.declared.calls.VbReply.{VbReply};
 ghost use Rattle.vb_told.specs.Laws.{ListsCalls, ListsNoMakes};
 ghost use Rattle.node_threads.specs.Seats.{has_row, mine_of, seat_made, seat_step};
-ghost use Rattle.node_told.specs.Laws.{AnswersAreTold, DialsAreTold, DuesAreTold, FlushesAreTold, HearingCallsNothing, MakesAreTold, OperatorsAreTold, OutcomesAreTold, PiecesAreTold, PullsAreTold, SettlesAreTold, YieldsAreTold};
+ghost use Rattle.node_told.specs.Laws.{AnswersAreTold, DialsAreTold, DropsAreTold, DuesAreTold, FlushesAreTold, HearingCallsNothing, MakesAreTold, OperatorsAreTold, OutcomesAreTold, PiecesAreTold, PullsAreTold, SettlesAreTold, YieldsAreTold};
 
 use vb_calls::{Journals, VbAccess};
 
@@ -38,6 +38,11 @@ pub fn pulls_are_told<A: VbAccess, J: Journals>()
 /// `give_up`: the same of the vBuckets that a connection gives up, each of which is told dead.
 pub fn yields_are_told<A: VbAccess, J: Journals>()
     ensures { (mine : A → ℕ → List (VbCall × VbReply)) → ListsCalls A.step mine → YieldsAreTold J A.step mine }
+{}
+
+/// `drop_cursor`: the same of the cursor of a connection's stream.
+pub fn drops_are_told<A: VbAccess, J: Journals>()
+    ensures { (mine : A → ℕ → List (VbCall × VbReply)) → ListsCalls A.step mine → DropsAreTold J A.step mine }
 {}
 
 /// `feed_dial`: a dial made its job's calls, with the replies that the lists gained and some answers of
@@ -81,6 +86,7 @@ pub fn nodes_over_seats_are_told<J: Journals>()
     ensures outcomes { OutcomesAreTold J seat_step mine_of }
     ensures pulls { PullsAreTold J seat_step mine_of }
     ensures yields { YieldsAreTold J seat_step mine_of }
+    ensures drops { DropsAreTold J seat_step mine_of }
     ensures dials { DialsAreTold seat_step J.asks mine_of }
     ensures operators { OperatorsAreTold seat_step J.asks mine_of }
     ensures flushes { FlushesAreTold seat_step J.asks mine_of has_row }

@@ -1,6 +1,6 @@
 use Rattle.node_threads.specs.Seats.{has_row, mine_of, seat_made, seat_step}
 use Rattle.node_threads.proofs.Lists.{made_quietly, told}
-use Rattle.node_told.proofs.Conns.{answers, hearing, outcomes, pieces, pulls, yields}
+use Rattle.node_told.proofs.Conns.{answers, drops, hearing, outcomes, pieces, pulls, yields}
 use Rattle.node_told.proofs.Disks.{dials, flushes, makes, operators}
 use Rattle.node_told.proofs.Settles.{dues, settles}
 use Rattle.node_told.proofs.laws.nodes_over_seats_are_told.Goals as goal
@@ -22,6 +22,9 @@ returns-clause-pulls g c = pulls seat_step mine_of told
 
 pub returns-clause-yields : goal.returns-clause-yields
 returns-clause-yields g c = yields seat_step mine_of told
+
+pub returns-clause-drops : goal.returns-clause-drops
+returns-clause-drops g c = drops seat_step mine_of told
 
 pub returns-clause-dials : goal.returns-clause-dials
 returns-clause-dials g c = dials seat_step g.J.Journals.asks mine_of told
