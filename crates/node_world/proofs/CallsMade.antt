@@ -16,7 +16,7 @@ use Rattle.vb_calls.specs.Plain.{plain_step}
 use Rattle.vb_calls.specs.Settling.{and_settled}
 use Rattle.vb_calls.specs.State.{Plain, is_active, quiet_reply, refusal_reply}
 use Rattle.vb_calls.specs.States.{call_at, with_vb_at}
-use Rattle.node_core.specs.Admin.{AdminResult, admin_call, admin_result, log_result, seal_result, show_result, stat_result}
+use Rattle.node_core.specs.Admin.{AdminResult, admin_call, admin_result, log_result, seal_result, show_result, stat_result, trim_result}
 use Rattle.node_core.specs.declared.admin.AdminCall.{AdminCall}
 use Rattle.node_core.specs.declared.admin.AdminCall.TheVariants as admin
 use Rattle.node_core.specs.Flushing.{settled_result}
@@ -96,6 +96,7 @@ module _ (w : PlainWorld) (n : ℕ) (node : PlainNode) (there : w.nodes n ≡ So
       tick = λ number active. leaves_so (tick_line n v) (told_so (plain_step vb (call.Tick node.clock))) (ticked active);
       seal = λ number is. asked admin.Seal tt _ (ap (λ a. call_told (seal_result a)) is);
       sealed = λ number is. asked admin.Seal tt _ (ap (λ a. call_told (seal_result a)) is);
+      trim = λ number removed is. asked admin.Trim tt _ (ap (λ a. call_told (trim_result a)) is);
       stat = λ number a b c d e is. asked admin.Stat tt _ (ap (λ x. call_told (stat_result n v x)) is);
       log = λ number log is. asked admin.Log tt _ (ap (λ x. call_told (log_result n v x)) is);
       show = λ number uuid ss se at said image is. asked admin.Show tt _ (ap (λ x. call_told (show_result n v x)) is);

@@ -36,7 +36,7 @@ use Rattle.node_world.specs.Causes.{IsGiven}
 use Rattle.node_world.specs.Cuts.{cut_off, own_link, unlinked}
 use Rattle.node_world.specs.Dues.{due_at, due_in, due_of, is_counted}
 use Rattle.node_world.specs.GivenIds.{GivesByLines, GivesNone, TellsBranch}
-use Rattle.node_world.specs.Links.{PlainLink, LinkResult, consumer_node, link_number, peer_of, producer_node, pump_at, up_at}
+use Rattle.node_world.specs.Links.{PlainLink, LinkResult, consumer_node, link_number, peer_of, producer_node, drop_at, pump_at, up_at}
 use Rattle.node_world.specs.Nodes.{PlainNode, arm_at, chain_line, clock_at, done, empty_node, first_cause, flush_line, if_up, refusal, refused_or, replica_at, save_line, tick_line, vb_at}
 use Rattle.node_world.specs.Power.{after_broken, after_fire, all_cut, all_unlinked, crash_causes, down_lines, dropped, is_broken_answer, start_at, start_causes, stopped_node, touches, with_arm}
 use Rattle.node_world.specs.Pumps.{gives_at, gone_told, with_given, with_gone, with_yielded}
@@ -136,6 +136,7 @@ vb_ids w n v vb_verb.Follow = turn_ids w n v (first_cause (turn_causes w n v rol
 vb_ids w n v vb_verb.Dead = turn_ids w n v (first_cause (turn_causes w n v role.Dead)) admin.Dead
 vb_ids w n v vb_verb.Tick = on_ids w n (tick_line n v)
 vb_ids w n v vb_verb.Seal = on_ids w n (admin_line n v admin.Seal)
+vb_ids w n v vb_verb.Trim = on_ids w n (admin_line n v admin.Trim)
 vb_ids w n v vb_verb.Take = on_ids w n (flush_line n v part.Take)
 vb_ids w n v vb_verb.Save = armed_on w n (save_line n v)
 vb_ids w n v vb_verb.Done = due_ids n v (on_node w n (flush_line n v part.Done)) ∙ on_ids w n (flush_line n v part.Done)
@@ -206,6 +207,7 @@ at_link_ids : (w : PlainWorld) (l : ℕ) (what : LinkVerb) → (link_verb_step w
 at_link_ids w l (link_verb.Up wanted) = link_ids w l producer_node (up_at wanted)
 at_link_ids w l (link_verb.Down wanted) = down_ids w l wanted
 at_link_ids w l (link_verb.Pump frames) = pump_ids w l frames
+at_link_ids w l link_verb.Drop = link_ids w l producer_node drop_at
 at_link_ids w l link_verb.Cut = by (row_at link_number l w.links)
   where
     by : (o : Option PlainLink) → (cut_outcome w o).0.uuids ≡ w.uuids

@@ -19,10 +19,10 @@ use Rattle.node_world.proofs.Pumping.{posted, pump_alone, pump_puts, put_last}
 use Rattle.node_world.proofs.Rows.{row_number}
 
 -- a node that was put in a world, and the others
-here : (w : PlainWorld) (n : ℕ) (node : PlainNode) → (with_node_at w n node).nodes n ≡ Some node
+pub here : (w : PlainWorld) (n : ℕ) (node : PlainNode) → (with_node_at w n node).nodes n ≡ Some node
 here w n node = ap (λ b. if b then Some node else w.nodes n) (eq-eqb n n refl)
 
-away : (w : PlainWorld) (n m : ℕ) (node : PlainNode) → m ≢ n → (with_node_at w n node).nodes m ≡ w.nodes m
+pub away : (w : PlainWorld) (n m : ℕ) (node : PlainNode) → m ≢ n → (with_node_at w n node).nodes m ≡ w.nodes m
 away w n m node other = by (m == n) refl
   where
     by : (b : Bool) → (m == n) ≡ b → (if b then Some node else w.nodes m) ≡ w.nodes m

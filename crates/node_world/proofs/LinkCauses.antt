@@ -20,6 +20,7 @@ use Rattle.vb_calls.proofs.Readings.{after_bind}
 use Rattle.vb_disk.specs.declared.fuse.Fuse.{Fuse}
 use Rattle.vb_disk.specs.declared.fuse.Fuse.TheVariants as fuse
 use Rattle.vbucket.specs.Rows.{row_at}
+use Rattle.dcp_producer.specs.Dropping.{cursor_dropped}
 use Rattle.dcp_producer.specs.Producers.{begun}
 use Rattle.dcp_producer.specs.Pulling.{why_of, frames_put}
 use Rattle.node_core.specs.Calls.{named_ask}
@@ -29,7 +30,7 @@ use Rattle.node_world.specs.declared.arm.Fired.TheVariants as fired
 use Rattle.node_world.specs.Arms.{fired_by}
 use Rattle.node_world.specs.Causes.{AtLink, CantGoBack, Dials, DialsMade, NoLink}
 use Rattle.node_world.specs.GivesFirst.{GivesFirst, losing_end}
-use Rattle.node_world.specs.Links.{PlainLink, LinkResult, link_number, producer_node, consumer_node, feeds, is_taken, ask_of, moved_len, up_at}
+use Rattle.node_world.specs.Links.{PlainLink, LinkResult, link_number, producer_node, consumer_node, feeds, is_taken, ask_of, moved_len, drop_at, up_at}
 use Rattle.node_world.specs.Nodes.{PlainNode, done, refusal, first_cause, refused_or}
 use Rattle.node_world.specs.Power.{after_broken, is_broken_answer}
 use Rattle.node_world.specs.World.{ask_in, cut_outcome, down_in, down_outcome, down_step, link_step, link_outcome, on_link, pump_outcome, with_dialed, with_link}
@@ -166,6 +167,7 @@ module _ (w : PlainWorld) (l : ℕ) (none : list_any (λ link. link_number link 
     up = λ wanted number. closed producer_node (up_at wanted);
     down = λ wanted number. closed_down wanted;
     pump = λ frames number. ap (λ o. (pump_outcome w l frames o).1.answer) (none_at w.links none);
+    drop = λ number. closed producer_node drop_at;
     cut = λ number. ap (λ o. (cut_outcome w o).1.answer) (none_at w.links none);
   }
 
@@ -238,6 +240,7 @@ module _ (w : PlainWorld) (l : ℕ) (link : PlainLink) (producer node : PlainNod
     up = λ wanted number why e. let told : answer.Number (moved_len wanted link.up) ≡ answer.No why = sym (at_end_of producer_node (up_at wanted) producer from) ∙ e in cc;
     down = λ wanted number why e. refused_as wanted why e;
     pump = λ frames number why e. let g = gives_first w number l frames link producer add_link from in pumped frames (end_of g) g.posted.vbs why (ap (λ (x : States × PullResult). x.1.answer) g.puts ∙ sym g.said ∙ e);
+    drop = ((after (cursor_dropped link.consumer.dialed.vb link.server) producer.vbs).1, λ number. at_end_of producer_node drop_at producer from);
     cut = λ number. ap (λ o. (cut_outcome w o).1.answer) add_link;
   }
     where

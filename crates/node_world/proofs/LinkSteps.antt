@@ -10,6 +10,7 @@ use Rattle.vb_calls.specs.Jobs.{after_job}
 use Rattle.vb_calls.specs.Programs.{after}
 use Rattle.dcp_consumer.specs.declared.handshake.Dialed.{Dialed}
 use Rattle.dcp_consumer.specs.Machine.{over_why}
+use Rattle.dcp_producer.specs.Dropping.{cursor_dropped}
 use Rattle.dcp_producer.specs.declared.desk.Desk.{Desk}
 use Rattle.node_core.specs.declared.out.NodeOut.{NodeOut}
 use Rattle.node_core.specs.Dials.{DialResult, dial_bytes}
@@ -22,11 +23,11 @@ use Rattle.script_text.specs.declared.verb.LinkVerb.TheVariants as link_verb
 use Rattle.node_world.specs.declared.script_node.ScriptNode.{ScriptNode}
 use Rattle.node_world.specs.declared.told.Told.{Told}
 use Rattle.node_world.specs.Cuts.{closed_at}
-use Rattle.node_world.specs.Ends.{peer_under, dial_under, PutsPeer, PutsDial, FeedsPeer, PullsPeer, ShutsPeer, FeedsDial, CutsDial, KeepsOthers, SameKeys, LinkLeft, LinkStep, Unlinks}
+use Rattle.node_world.specs.Ends.{peer_under, dial_under, KeepsEnds, PutsPeer, PutsDial, FeedsPeer, PullsPeer, DropsPeer, ShutsPeer, FeedsDial, CutsDial, KeepsOthers, SameKeys, LinkLeft, LinkStep, Unlinks}
 use Rattle.node_world.specs.Arms.{placed, under_arm}
 use Rattle.node_world.specs.Lines.{answer_if, moved_if, out_told, end_line}
 use Rattle.node_world.specs.World.{down_in}
-use Rattle.node_world.specs.Links.{PlainLink, LinkResult, producer_node, peer_of, dial_of, moved, moved_len, up_at, with_down, left_unless, down_answer, down_at, peer_given, pump_at}
+use Rattle.node_world.specs.Links.{PlainLink, LinkResult, producer_node, peer_of, dial_of, moved, moved_len, up_at, with_down, left_unless, down_answer, down_at, peer_given, pump_at, drop_at}
 use Rattle.node_world.specs.Nodes.{PlainNode, refusal}
 use Rattle.node_world.specs.Stands.{node_number, NodeMatch, NodesStand, live_peer, Ends, ends_of, LinkStands}
 use Rattle.node_world.specs.Worlds.{PlainWorld, with_node_if}
@@ -153,6 +154,46 @@ module _ (nodes : List ScriptNode) (at : ℕ) (old new : ScriptNode) (link : Lin
           let (node, there, alike) = plain_at nodes link.producer at old new placed is w stands in
           let puts = (pulled node (peer_of plain) alike (has_peer plain ends)).2 in
           let known = stepped w plain (pump_at frames plain) (out_told out) pumped puts.number ends stands (pump_one plain ends) in
+          record { stands = known.0; others = others_kept _ puts; said = known.1; left = known.2 };
+    }
+
+  -- `drop L`
+  module _ (out : NodeOut) (dropped : DropsPeer link.conn link.vb old out new) where
+    -- all ends stay, so this peer is as it was
+    puts_same : KeepsEnds old new → PutsPeer old new link.conn (peer_under old link.conn)
+    puts_same keeps = record { number = keeps.number; changed = keeps.peers link.conn; others = λ other differs. keeps.peers other; dials = keeps.dials }
+
+    drops_as : (plain : PlainLink) → LinkStands (ends_of nodes) link plain → DropsPeer link.conn plain.consumer.dialed.vb old out new
+    drops_as plain ends = subst (λ v. DropsPeer link.conn v old out new) ends.vb dropped
+
+    drop_one : (plain : PlainLink) → LinkStands (ends_of nodes) link plain → (node : PlainNode) → NodeMatch old node → Went plain (out_told out) link (drop_at plain node)
+    drop_one plain ends node alike =
+        let (stands, said, keeps) = drops_as plain ends node (peer_of plain) alike (has_peer plain ends) in
+        let puts = puts_same keeps in (
+          stands,
+          ap out_told said,
+          (
+            refl,
+            record {
+              number = ends.number;
+              producer = ends.producer;
+              node = ends.node;
+              vb = ends.vb;
+              server = peer_put nodes link.producer at old new placed is puts.number link.conn _ puts ∙ has_peer plain ends;
+              consumer = dials_stay nodes link.producer at old new placed is puts.number puts.dials link.node link.vb ∙ ends.consumer;
+              up = ends.up;
+              down = ends.down;
+            },
+          ),
+        )
+
+    pub drop_step : LinkStep link_verb.Drop nodes link (out_told out) false nodes' link
+    drop_step = record {
+      keys = keys_kept link link.up link.down;
+      came = λ w plain stands ends.
+          let (node, there, alike) = plain_at nodes link.producer at old new placed is w stands in
+          let puts = puts_same (drops_as plain ends node (peer_of plain) alike (has_peer plain ends)).2 in
+          let known = stepped w plain (drop_at plain) (out_told out) link puts.number ends stands (drop_one plain ends) in
           record { stands = known.0; others = others_kept _ puts; said = known.1; left = known.2 };
     }
 
@@ -297,3 +338,9 @@ module _ (nodes : List ScriptNode) (at : ℕ) (old new : ScriptNode) (link : Lin
       subst (λ t. LinkStep (link_verb.Pump frames) nodes link t over (set nodes at new) (record link { up = link.up; down = down })) (sym said)
       (subst (λ b. LinkStep (link_verb.Pump frames) nodes link (out_told out) b (set nodes at new) (record link { up = link.up; down = down })) (sym going)
       (pump_step nodes at old new link placed is frames out down pulled down_is))
+
+module _ (nodes : List ScriptNode) (at : ℕ) (old new : ScriptNode) (link : Link) (out : NodeOut) (told : Told) (is : old ≡ get_or nodes at old) where
+  pub drop_line : position (λ node. node_number node == link.producer) nodes ≡ Some at → DropsPeer link.conn link.vb old out new → told ≡ out_told out → (over : Bool) → over ≡ false → LinkStep link_verb.Drop nodes link told over (set nodes at new) link
+  drop_line placed dropped said over going =
+      subst (λ t. LinkStep link_verb.Drop nodes link t over (set nodes at new) link) (sym said)
+      (subst (λ b. LinkStep link_verb.Drop nodes link (out_told out) b (set nodes at new) link) (sym going) (drop_step nodes at old new link placed is out dropped))

@@ -1,5 +1,5 @@
 -- why lines for nodes are refused
-use Rattle.std.proofs.Common.{◌≡◌, ℕ, Bool, true, false, List, [], ◌∷◌, ◌++◌, refl, ap, ◌∙◌, Option, Some, None, is_some, option_map, sym}
+use Rattle.std.proofs.Common.{◌≡◌, ℕ, Bool, true, false, List, [], ◌∷◌, ◌++◌, length, refl, ap, ◌∙◌, Option, Some, None, is_some, option_map, sym}
 use Rattle.std.specs.Prelude.{◌≢◌, ◌==◌, not, nat_le, if◌then◌else◌}
 use Rattle.std.proofs.lemmas.Bool.{eq-eqb, eqb-true, le-leb, lt-leb, ne_eqb}
 use Rattle.disk_journals.specs.Arms.{fuse_at, under}
@@ -24,6 +24,7 @@ use Rattle.vb_calls.specs.Plain.{plain_step}
 use Rattle.vb_calls.specs.Roles.{is_role, promoted}
 use Rattle.vb_calls.specs.State.{Plain, first_log, is_active}
 use Rattle.vb_calls.specs.States.{States, call_at, states_step, with_vb_at}
+use Rattle.vb_calls.specs.Trims.{ended_by, needless_to}
 use Rattle.vb_disk.specs.declared.fuse.Fuse.{Fuse}
 use Rattle.node_core.specs.declared.admin.AdminCall.{AdminCall}
 use Rattle.node_core.specs.declared.admin.AdminCall.TheVariants as admin
@@ -86,6 +87,7 @@ module _ (w : PlainWorld) (n : ℕ) (none : w.nodes n ≡ None) where
     follow = λ v number. unmade_turn v role.Replica [] (role_outcome n v admin.Follow w);
     dead = λ v number. unmade_turn v role.Dead [] (role_outcome n v admin.Dead w);
     seal = λ v number. unmade (if_up (admin_line n v admin.Seal));
+    trim = λ v number. unmade (if_up (admin_line n v admin.Trim));
     take = λ v number. unmade (if_up (flush_line n v part.Take));
     save = λ v number. unmade_armed (if_up (save_line n v));
     done = λ v number. due_answer n v (on_node w n (flush_line n v part.Done)) ∙ unmade (if_up (flush_line n v part.Done));
@@ -169,6 +171,7 @@ module _ (w : PlainWorld) (n : ℕ) (node : PlainNode) (there : w.nodes n ≡ So
     follow = λ number. refused_armed w n _ cause.UnknownVb (turned_by v role.Replica [] (role_outcome n v admin.Follow w) None e);
     dead = λ number. refused_armed w n _ cause.UnknownVb (turned_by v role.Dead [] (role_outcome n v admin.Dead w) None e);
     seal = λ number. asked_by v admin.Seal tt None e;
+    trim = λ number. asked_by v admin.Trim tt None e;
     take = λ number. none_flushed v part.Take e;
     save = λ number. none_saved v e;
     done = λ number. due_answer n v (on_node w n (flush_line n v part.Done)) ∙ none_flushed v part.Done e;
@@ -306,6 +309,7 @@ module _ (w : PlainWorld) (n v : ℕ) (node : PlainNode) (vb : Plain) (there : w
     log = λ number. asked_by w n node there up v admin.Log tt (Some vb) here;
     show = λ number. asked_by w n node there up v admin.Show tt (Some vb) here;
     seal = λ number why e. let told : answer.Number (if is_some vb.spans.current then 1 else 0) ≡ answer.No why = sym (asked_by w n node there up v admin.Seal tt (Some vb) here) ∙ e in cc;
+    trim = λ number. (length (ended_by (needless_to vb) vb.spans.sealed), asked_by w n node there up v admin.Trim tt (Some vb) here);
   }
 
   -- where the next record stands

@@ -31,7 +31,7 @@ use Rattle.node_core.specs.declared.admin.AdminCall.TheVariants as admin
 use Rattle.node_core.specs.declared.out.NodeOut.{NodeOut}
 use Rattle.node_core.specs.Dials.{KeptDial}
 use Rattle.node_core.specs.Peers.{KeptPeer}
-use Rattle.node_core.specs.Admin.{AdminResult, admin_call, admin_result, seal_result, show_result, log_result, stat_result, admin_job}
+use Rattle.node_core.specs.Admin.{AdminResult, admin_call, admin_result, seal_result, show_result, log_result, stat_result, trim_result, admin_job}
 use Rattle.node_core.specs.Outcomes.{Administered, Settles, Wrote, value_at}
 use Rattle.node_core.specs.Outs.{admin_out, dial_ended, flush_by}
 use Rattle.node_world.specs.declared.script_node.ScriptNode.{ScriptNode}
@@ -172,6 +172,10 @@ quiet_seal : (a : VbAnswer) → (seal_result a).ended ≡ None
 quiet_seal (vb_answer.Flag sealed) = refl
 quiet_seal other = refl
 
+quiet_trim : (a : VbAnswer) → (trim_result a).ended ≡ None
+quiet_trim (vb_answer.Num removed) = refl
+quiet_trim other = refl
+
 quiet_show : (n v : ℕ) (a : VbAnswer) → (show_result n v a).ended ≡ None
 quiet_show n v (vb_answer.Shown role uuid ss se at image) = refl
 quiet_show n v other = refl
@@ -190,6 +194,7 @@ quiet n v (admin.Promote uuid) k (Some reply) = absurd k
 quiet n v admin.Follow k (Some reply) = absurd k
 quiet n v admin.Dead k (Some reply) = absurd k
 quiet n v admin.Seal k (Some reply) = quiet_seal reply.answer
+quiet n v admin.Trim k (Some reply) = quiet_trim reply.answer
 quiet n v admin.Stat k (Some reply) = quiet_stat n v reply.answer
 quiet n v admin.Show k (Some reply) = quiet_show n v reply.answer
 quiet n v admin.Log k (Some reply) = quiet_log n v reply.answer
@@ -203,7 +208,7 @@ untold old new v ended none tells = record {
 }
 
 module _ (old : ScriptNode) (v : ℕ) (asked : AdminCall) (out : NodeOut) (node : MemNode) (went : Administered (alone_step SlotsStand) MemAsks v asked old.node out node) (keeps : KeepsRole asked) where
-  -- `seal`, `stat`, `log` and `show`
+  -- `seal`, `trim`, `stat`, `log` and `show`
   pub carries_call : Carries (admin_line (node_number old) v asked) old (out_told out) (inside old node)
   carries_call plain stands =
       let (alike, said, tells) = turns old v asked out node went plain stands in

@@ -16,7 +16,7 @@ use Rattle.node_world.specs.declared.told.Told.{Told}
 use Rattle.node_world.specs.Cuts.{closed_at, closed_in, unlinked}
 use Rattle.node_world.specs.Ends.{KeepsOthers, SameKeys, LinkLeft, LinkCame, LinkStep, Unlinked, Unlinks, LeavesLink, LeavesOwn}
 use Rattle.node_world.specs.Lines.{at_link, link_line_if, link_line_at}
-use Rattle.node_world.specs.Links.{PlainLink, LinkResult, link_number, producer_node, consumer_node, up_at, pump_at}
+use Rattle.node_world.specs.Links.{PlainLink, LinkResult, link_number, producer_node, consumer_node, up_at, drop_at, pump_at}
 use Rattle.node_world.specs.Nodes.{PlainNode, refusal}
 use Rattle.node_world.specs.Pairing.{Pairs}
 use Rattle.node_world.specs.Stands.{Ends, ends_of, LinkStands, Apart, IdsStand, LinksStand, Kept, WorldStands}
@@ -38,12 +38,14 @@ came_uuids : (asked : LinkVerb) (w : PlainWorld) (plain : PlainLink) → (at_lin
 came_uuids (link_verb.Up wanted) w plain = outcome_uuids w (producer_node plain) (Some plain, refusal cause.UnknownNode) (w.nodes (producer_node plain)) (up_at wanted plain)
 came_uuids (link_verb.Down wanted) w plain = outcome_uuids w (consumer_node plain) (Some plain, refusal cause.UnknownNode) (w.nodes (consumer_node plain)) (down_in wanted plain)
 came_uuids (link_verb.Pump frames) w plain = outcome_uuids w (producer_node plain) (Some plain, refusal cause.UnknownNode) (w.nodes (producer_node plain)) (pump_at frames plain)
+came_uuids link_verb.Drop w plain = outcome_uuids w (producer_node plain) (Some plain, refusal cause.UnknownNode) (w.nodes (producer_node plain)) (drop_at plain)
 came_uuids link_verb.Cut w plain = refl
 
 came_links : (asked : LinkVerb) (w : PlainWorld) (plain : PlainLink) → (at_link asked w plain).0.links ≡ w.links
 came_links (link_verb.Up wanted) w plain = outcome_links w (producer_node plain) (Some plain, refusal cause.UnknownNode) (w.nodes (producer_node plain)) (up_at wanted plain)
 came_links (link_verb.Down wanted) w plain = outcome_links w (consumer_node plain) (Some plain, refusal cause.UnknownNode) (w.nodes (consumer_node plain)) (down_in wanted plain)
 came_links (link_verb.Pump frames) w plain = outcome_links w (producer_node plain) (Some plain, refusal cause.UnknownNode) (w.nodes (producer_node plain)) (pump_at frames plain)
+came_links link_verb.Drop w plain = outcome_links w (producer_node plain) (Some plain, refusal cause.UnknownNode) (w.nodes (producer_node plain)) (drop_at plain)
 came_links link_verb.Cut w plain = refl
 
 -- so does the end of its streams

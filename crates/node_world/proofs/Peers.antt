@@ -10,6 +10,7 @@ use Rattle.vb_calls.specs.Jobs.{after_job}
 use Rattle.vb_calls.specs.Programs.{after, alone_step}
 use Rattle.vb_calls.proofs.Readings.{alone_after}
 use Rattle.vbucket.specs.Stands.{SlotsStand}
+use Rattle.dcp_producer.specs.Dropping.{cursor_dropped}
 use Rattle.dcp_producer.specs.Ending.{end_closed}
 use Rattle.node_core.specs.declared.conn.Conn.{Conn}
 use Rattle.node_core.specs.declared.conn.ConnKind.TheVariants as kind
@@ -17,12 +18,12 @@ use Rattle.node_core.specs.declared.out.NodeOut.{NodeOut}
 use Rattle.node_core.specs.Calls.{dial_requested}
 use Rattle.node_core.specs.Dials.{PlainDial, KeptDial, DialResult, dial_due, dial_bytes}
 use Rattle.dcp_consumer.specs.declared.handshake.Dialed.{Dialed as LinkDialed}
-use Rattle.node_core.specs.Outcomes.{value_at, Renumbered, peer_conn, live_dial, Opened, ConnHeard, Heard, Answered, AnsweredAt, Pulled, PulledAt, Shut, ShutAt, DialedAs, Dialed, DialDue, DialDueAt, DialFed, DialFedAt, DialShutAt, dial_left}
-use Rattle.node_core.specs.Outs.{done_out, peer_out, pull_out, dial_out}
+use Rattle.node_core.specs.Outcomes.{value_at, Renumbered, peer_conn, live_dial, Opened, ConnHeard, Heard, Answered, AnsweredAt, Pulled, PulledAt, Dropped, DroppedAt, Shut, ShutAt, DialedAs, Dialed, DialDue, DialDueAt, DialFed, DialFedAt, DialShutAt, dial_left}
+use Rattle.node_core.specs.Outs.{done_out, peer_out, pull_out, dial_out, dropped_out}
 use Rattle.node_core.specs.Peers.{PlainPeer, PeerResult, PullResult, peer_heard, peer_frames, peer_answered, peer_pulled}
 use Rattle.mcbp_frame.specs.declared.frame.Frame.{Frame}
 use Rattle.node_world.specs.declared.script_node.ScriptNode.{ScriptNode}
-use Rattle.node_world.specs.Ends.{peer_under, dial_under, PutsPeer, PutsDial, OpensPeer, PullsPeer, ShutsPeer, DialCame, DialsFor, DuesDial, CutsDial, dial_given}
+use Rattle.node_world.specs.Ends.{peer_under, dial_under, PutsPeer, PutsDial, OpensPeer, PullsPeer, DropsPeer, ShutsPeer, DialCame, DialsFor, DuesDial, CutsDial, dial_given}
 use Rattle.node_world.specs.Nodes.{PlainNode, with_states}
 use Rattle.node_world.specs.Stands.{MemNode, NodeMatch, client_part, peer_part, live_peer, node_number}
 use Rattle.node_world.proofs.Clients.{part_at, part_but, part_stays}
@@ -108,6 +109,21 @@ module _ (old : ScriptNode) (key : ℕ) (out : NodeOut) (node : MemNode) where
         with_slots old node plain (after (peer_pulled frames peer) plain.vbs).0 known.1 (ap (λ (x : MemNode). x.disks) pulled.rest) (clients_stay old key (Some pulled.left) node pulled.conns (ap (λ c. client_part (Some c)) left) (ap client_part is)) (off_up old (inside old node) plain.off refl (peer_is_up old plain.off key (live_peer peer) has stands.off) stands.off) stands,
         said ∙ ap pull_out known.0,
         subst (PutsPeer old (inside old node) key) (ap (λ c. peer_part (Some c)) left ∙ ap (λ (t : PullResult). Some (live_peer t.peer)) known.0) put,
+      )
+
+  -- has a stream's cursor taken away
+  pub drops_peer : (v : ℕ) → DroppedAt (alone_step SlotsStand) v (get old.node.conns key) old.node out node → DropsPeer key v old out (inside old node)
+  drops_peer v went plain peer stands has =
+      let dropped : Dropped (alone_step SlotsStand) v (peer_conn peer) old.node out node = subst (λ o. DroppedAt (alone_step SlotsStand) v o old.node out node) (is_peer peer has) went in
+      let known = alone_after SlotsStand (cursor_dropped v peer.producer) old.node.vbs dropped.had node.vbs dropped.ran plain.vbs stands.slots in (
+        with_slots old node plain (after (cursor_dropped v peer.producer) plain.vbs).0 known.1 (ap (λ (x : MemNode). x.disks) dropped.rest) (λ k. ap (λ (x : MemNode). client_part (get x.conns k)) dropped.rest)
+            (off_up old (inside old node) plain.off refl (peer_is_up old plain.off key (live_peer peer) has stands.off) stands.off) stands,
+        dropped.said ∙ ap dropped_out known.0,
+        record {
+          number = ap (λ (x : MemNode). x.number) dropped.rest;
+          peers = λ k. ap (λ (x : MemNode). peer_part (get x.conns k)) dropped.rest;
+          dials = λ u. ap (λ (x : MemNode). value_at x.dials u) dropped.rest;
+        },
       )
 
   -- and its connection is closed

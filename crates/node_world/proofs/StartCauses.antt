@@ -121,6 +121,7 @@ module _ (w : PlainWorld) (n : ℕ) (node : PlainNode) (books : List Book) (ther
     follow = λ v number. down_turn v role.Replica [] (role_outcome n v admin.Follow w);
     dead = λ v number. down_turn v role.Dead [] (role_outcome n v admin.Dead w);
     seal = λ v number. resting w n node there down (admin_line n v admin.Seal);
+    trim = λ v number. resting w n node there down (admin_line n v admin.Trim);
     take = λ v number. resting w n node there down (flush_line n v part.Take);
     save = λ v number. resting_armed w n node there down (save_line n v);
     done = λ v number. due_answer n v (on_node w n (flush_line n v part.Done)) ∙ resting w n node there down (flush_line n v part.Done);

@@ -41,7 +41,7 @@ use Rattle.node_core.specs.Clients.{PlainClient}
 use Rattle.node_world.specs.Arms.{fail_arm, fired_by, stop_arm, under_arm}
 use Rattle.node_world.specs.Cuts.{closed_at, cut_off, links_ended, own_link, unlinked}
 use Rattle.node_world.specs.Dues.{due_at, due_in, due_of, is_counted}
-use Rattle.node_world.specs.Links.{PlainLink, LinkResult, dial_of, frame_up, frames_up, link_number, moved_len, peer_of, producer_node, consumer_node, down_at, pump_at, untold_peer, up_at}
+use Rattle.node_world.specs.Links.{PlainLink, LinkResult, dial_of, frame_up, frames_up, link_number, moved_len, peer_of, producer_node, consumer_node, down_at, drop_at, pump_at, untold_peer, up_at}
 use Rattle.node_world.specs.Nodes.{PlainNode, all_posted, arm_at, bytes_at, chain_causes, chain_line, chain_made, client_at, clock_at, done, empty_node, flush_here, bytes_if, first_cause, flush_line, hang_at, hung_if, if_up, pull_at, pull_if, refusal, refused_or, replica_at, replica_causes, save_line, shelf_or_blank, tick_line, vb_at, vb_causes, vb_made, vb_noted, with_clients_ended, with_disk, with_kept, with_states}
 use Rattle.node_world.specs.Power.{after_broken, after_fire, all_cut, all_unlinked, burnt_arm, crash_causes, down_lines, dropped, is_broken_answer, loaded_node, not_opened, opened_at, start_at, start_call, start_causes, start_if, start_one, started_by, starts_from, stopped_node, touches, with_arm, with_broken}
 use Rattle.node_world.specs.Pumps.{gives_at, gone_told, with_given, with_gone, with_yielded}
@@ -383,6 +383,7 @@ verb_rests w line (verb.Link l m n v buffer takeover) rests = refused_rests (fir
 verb_rests w line (verb.AtLink l (link_verb.Up wanted)) rests = link_rests w l producer_node (up_at wanted) rests (moved_keeps wanted)
 verb_rests w line (verb.AtLink l (link_verb.Down wanted)) rests = down_rests w l wanted rests
 verb_rests w line (verb.AtLink l (link_verb.Pump frames)) rests = pump_rests w l frames rests
+verb_rests w line (verb.AtLink l link_verb.Drop) rests = link_rests w l producer_node drop_at rests (λ link v node h. h)
 verb_rests w line (verb.AtLink l link_verb.Cut) rests = cut_rests w (row_at link_number l w.links) rests
 verb_rests w line (verb.AtVb n v (vb_verb.Promote uuid)) rests =
     arm_rests w n (promote_step w n v uuid) (refused_rests (first_cause (promote_causes w n v uuid)) w (role_outcome n v (admin.Promote uuid) w) rests (role_rests w n v (admin.Promote uuid) rests))
@@ -391,6 +392,7 @@ verb_rests w line (verb.AtVb n v vb_verb.Follow) rests =
 verb_rests w line (verb.AtVb n v vb_verb.Dead) rests =
     arm_rests w n (turn_step w n v role.Dead admin.Dead) (refused_rests (first_cause (turn_causes w n v role.Dead)) w (role_outcome n v admin.Dead w) rests (role_rests w n v admin.Dead rests))
 verb_rests w line (verb.AtVb n v vb_verb.Seal) rests = line_rests w n (admin_line n v admin.Seal) rests (admin_keeps n v admin.Seal)
+verb_rests w line (verb.AtVb n v vb_verb.Trim) rests = line_rests w n (admin_line n v admin.Trim) rests (admin_keeps n v admin.Trim)
 verb_rests w line (verb.AtVb n v vb_verb.Take) rests = line_rests w n (flush_line n v part.Take) rests (flush_keeps n v part.Take)
 verb_rests w line (verb.AtVb n v vb_verb.Save) rests = arm_rests w n (on_node w n (save_line n v)) (line_rests w n (save_line n v) rests (save_keeps n v))
 verb_rests w line (verb.AtVb n v vb_verb.Done) rests = due_rests n v (on_node w n (flush_line n v part.Done)) (line_rests w n (flush_line n v part.Done) rests (flush_keeps n v part.Done))

@@ -55,6 +55,7 @@ pub record CallsMade (w : PlainWorld) (n v : ℕ) (node : PlainNode) (vb : Plain
   pub tick : (number : ℕ) → vb.role ≡ role.Active → Settles w n v node vb (call.Tick node.clock) (verb_step w number (verb.AtVb n v vb_verb.Tick))
   pub seal : (number : ℕ) → (reply_of vb call.Seal).answer ≡ answer.Flag true → Tells w n v node vb call.Seal (record { events = []; answer = line.Number 1 }) (verb_step w number (verb.AtVb n v vb_verb.Seal))
   pub sealed : (number : ℕ) → (reply_of vb call.Seal).answer ≡ answer.Flag false → Tells w n v node vb call.Seal (record { events = []; answer = line.Number 0 }) (verb_step w number (verb.AtVb n v vb_verb.Seal))
+  pub trim : (number removed : ℕ) → (reply_of vb call.Trim).answer ≡ answer.Num removed → Tells w n v node vb call.Trim (record { events = []; answer = line.Number removed }) (verb_step w number (verb.AtVb n v vb_verb.Trim))
   pub stat : (number a b c d e : ℕ) → (reply_of vb call.Stat).answer ≡ answer.Stat a b c d e
       → Tells w n v node vb call.Stat (record { events = event.Stat n v a b c d e ∷ []; answer = line.Ok }) (verb_step w number (verb.AtVb n v vb_verb.Stat))
   pub log : (number : ℕ) (log : List LogEntry) → (reply_of vb call.Log).answer ≡ answer.Logged log

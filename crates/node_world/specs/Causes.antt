@@ -1,5 +1,5 @@
 -- why lines are refused, in the words of the world, the earlier causes denied
-use Rattle.std.specs.Prelude.{◌≡◌, ◌≢◌, ◌≤◌, ◌<◌, ◌+◌, ◌*◌, ℕ, ◌==◌, Bool, true, false, List, ◌∷◌, ◌++◌, length, Some, None, is_some}
+use Rattle.std.specs.Prelude.{◌≡◌, ◌≢◌, ◌≤◌, ◌<◌, ◌+◌, ◌*◌, ℕ, ◌==◌, Bool, true, false, List, ◌∷◌, ◌++◌, length, Some, None, is_some, if◌then◌else◌}
 use Rattle.std.specs.List.{list_any}
 use Rattle.node_core.specs.Clients.{PlainClient}
 use Rattle.disk_journals.specs.Arms.{opens_all, under}
@@ -69,6 +69,7 @@ pub record NoNode (w : PlainWorld) (n : ℕ) : Type 0 where
   pub follow : (v : ℕ) → RefusedFor w cause.UnknownNode (verb.AtVb n v vb_verb.Follow)
   pub dead : (v : ℕ) → RefusedFor w cause.UnknownNode (verb.AtVb n v vb_verb.Dead)
   pub seal : (v : ℕ) → RefusedFor w cause.UnknownNode (verb.AtVb n v vb_verb.Seal)
+  pub trim : (v : ℕ) → RefusedFor w cause.UnknownNode (verb.AtVb n v vb_verb.Trim)
   pub take : (v : ℕ) → RefusedFor w cause.UnknownNode (verb.AtVb n v vb_verb.Take)
   pub save : (v : ℕ) → RefusedFor w cause.UnknownNode (verb.AtVb n v vb_verb.Save)
   pub done : (v : ℕ) → RefusedFor w cause.UnknownNode (verb.AtVb n v vb_verb.Done)
@@ -112,6 +113,7 @@ pub record AtDown (w : PlainWorld) (n : ℕ) (node : PlainNode) (books : List Bo
   pub follow : (v : ℕ) → RefusedFor w cause.NodeDown (verb.AtVb n v vb_verb.Follow)
   pub dead : (v : ℕ) → RefusedFor w cause.NodeDown (verb.AtVb n v vb_verb.Dead)
   pub seal : (v : ℕ) → RefusedFor w cause.NodeDown (verb.AtVb n v vb_verb.Seal)
+  pub trim : (v : ℕ) → RefusedFor w cause.NodeDown (verb.AtVb n v vb_verb.Trim)
   pub take : (v : ℕ) → RefusedFor w cause.NodeDown (verb.AtVb n v vb_verb.Take)
   pub save : (v : ℕ) → RefusedFor w cause.NodeDown (verb.AtVb n v vb_verb.Save)
   pub done : (v : ℕ) → RefusedFor w cause.NodeDown (verb.AtVb n v vb_verb.Done)
@@ -135,6 +137,7 @@ pub record NoVb (w : PlainWorld) (n v : ℕ) : Type 0 where
   pub follow : RefusedFor w cause.UnknownVb (verb.AtVb n v vb_verb.Follow)
   pub dead : RefusedFor w cause.UnknownVb (verb.AtVb n v vb_verb.Dead)
   pub seal : RefusedFor w cause.UnknownVb (verb.AtVb n v vb_verb.Seal)
+  pub trim : RefusedFor w cause.UnknownVb (verb.AtVb n v vb_verb.Trim)
   pub take : RefusedFor w cause.UnknownVb (verb.AtVb n v vb_verb.Take)
   pub save : RefusedFor w cause.UnknownVb (verb.AtVb n v vb_verb.Save)
   pub done : RefusedFor w cause.UnknownVb (verb.AtVb n v vb_verb.Done)
@@ -148,6 +151,7 @@ pub record NoLink (w : PlainWorld) (l : ℕ) : Type 0 where
   pub up : (wanted : ℕ) → RefusedFor w cause.LinkClosed (verb.AtLink l (link_verb.Up wanted))
   pub down : (wanted : ℕ) → RefusedFor w cause.LinkClosed (verb.AtLink l (link_verb.Down wanted))
   pub pump : (frames : ℕ) → RefusedFor w cause.LinkClosed (verb.AtLink l (link_verb.Pump frames))
+  pub drop : RefusedFor w cause.LinkClosed (verb.AtLink l link_verb.Drop)
   pub cut : RefusedFor w cause.LinkClosed (verb.AtLink l link_verb.Cut)
 
 -- the next record of a journal stands, whose disk is called under the node's arm
@@ -197,6 +201,7 @@ pub record AtVb (w : PlainWorld) (n v : ℕ) (vb : Plain) : Type 0 where
   pub log : AnsweredAs w answer.Ok (verb.AtVb n v vb_verb.Log)
   pub show : AnsweredAs w answer.Ok (verb.AtVb n v vb_verb.Show)
   pub seal : IsDone w (verb.AtVb n v vb_verb.Seal)
+  pub trim : Counts w (verb.AtVb n v vb_verb.Trim)
 
 -- lines for the vBucket v of the node n, where its journal is there and the next record stands under the node's arm: a change of role is written down, and each step of a batch wants the one before it
 pub record AtShelf (w : PlainWorld) (n v : ℕ) (vb : Plain) (shelf : Shelf) : Type 0 where
@@ -246,6 +251,7 @@ pub record AtLink (w : PlainWorld) (l : ℕ) (node : PlainNode) : Type 0 where
   pub up : (wanted : ℕ) → IsDone w (verb.AtLink l (link_verb.Up wanted))
   pub down : (wanted number : ℕ) (why : Cause) → (verb_step w number (verb.AtLink l (link_verb.Down wanted))).1.answer ≡ answer.No why → CantGoBack node.arm.fuse why
   pub pump : (frames : ℕ) → IsDone w (verb.AtLink l (link_verb.Pump frames))
+  pub drop : (had : Bool) × AnsweredAs w (answer.Number (if had then 1 else 0)) (verb.AtLink l link_verb.Drop)
   pub cut : AnsweredAs w answer.Ok (verb.AtLink l link_verb.Cut)
 
 -- why lines are refused, and where they are not

@@ -11,6 +11,7 @@ use Rattle.vb_calls.specs.Programs.{after}
 use Rattle.dcp_consumer.specs.Dialing.{requests}
 use Rattle.dcp_consumer.specs.declared.handshake.Dialed.{Dialed}
 use Rattle.dcp_producer.specs.declared.yields.Yielded.{Yielded}
+use Rattle.dcp_producer.specs.Dropping.{cursor_dropped}
 use Rattle.dcp_producer.specs.Ending.{end_closed}
 use Rattle.node_core.specs.declared.admin.AdminCall.{AdminCall}
 use Rattle.node_core.specs.declared.out.NodeOut.{NodeOut}
@@ -19,7 +20,7 @@ use Rattle.node_core.specs.Clients.{PlainClient, KeptClient, client_ended}
 use Rattle.node_core.specs.Dials.{PlainDial, KeptDial, DialResult, new_dial, dial_bytes, dial_due}
 use Rattle.node_core.specs.GivingUp.{GiveResult, given_out, peer_gives_up}
 use Rattle.node_core.specs.Outcomes.{value_at, live_dial, dial_left}
-use Rattle.node_core.specs.Outs.{refused_out, done_out, pull_out, dial_out, cut_out, dial_ended, admin_out}
+use Rattle.node_core.specs.Outs.{refused_out, done_out, pull_out, dial_out, cut_out, dial_ended, admin_out, dropped_out}
 use Rattle.node_core.specs.Peers.{PlainPeer, KeptPeer, new_peer, peer_pulled, peer_ended}
 use Rattle.node_world.specs.declared.link.Link.{Link}
 use Rattle.script_text.specs.declared.verb.LinkVerb.{LinkVerb}
@@ -138,6 +139,12 @@ abbrev pub PullsPeer : ℕ → ℕ → ScriptNode → NodeOut → ScriptNode →
 PullsPeer key frames old out new = (plain : PlainNode) (peer : PlainPeer) → NodeMatch old plain → peer_under old key ≡ Some (live_peer peer) →
     let (states, told) = after (peer_pulled frames peer) plain.vbs in
     NodeMatch new (with_states plain states) × (out ≡ pull_out told) × PutsPeer old new key (Some (live_peer told.peer))
+
+-- the cursor of the stream of the vBucket v of the producer under a key is taken away
+abbrev pub DropsPeer : ℕ → ℕ → ScriptNode → NodeOut → ScriptNode → Type 0
+DropsPeer key v old out new = (plain : PlainNode) (peer : PlainPeer) → NodeMatch old plain → peer_under old key ≡ Some (live_peer peer) →
+    let (states, had) = after (cursor_dropped v peer.producer) plain.vbs in
+    NodeMatch new (with_states plain states) × (out ≡ dropped_out had) × KeepsEnds old new
 
 -- a peer, once vBuckets were given up: it is told which streams ended with each
 abbrev pub kept_peer_yielded : KeptPeer → Yielded → KeptPeer

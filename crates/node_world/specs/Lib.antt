@@ -4,6 +4,7 @@ pub mod Bases
 pub mod Nodes
 pub mod Links
 pub mod Worlds
+pub mod CursorsDropped
 pub mod Cuts
 pub mod Dues
 pub mod Turns

@@ -17,7 +17,7 @@ use Rattle.script_text.specs.declared.verb.LinkVerb.TheVariants as link_verb
 use Rattle.node_world.specs.declared.script_node.NodeLine.{NodeLine}
 use Rattle.node_world.specs.declared.script_node.NodeLine.TheVariants as node_line
 use Rattle.node_world.specs.declared.told.Told.{Told}
-use Rattle.node_world.specs.Links.{PlainLink, LinkResult, link_number, producer_node, consumer_node, up_at, pump_at}
+use Rattle.node_world.specs.Links.{PlainLink, LinkResult, link_number, producer_node, consumer_node, up_at, pump_at, drop_at}
 use Rattle.node_world.specs.Nodes.{PlainNode, done, refusal, refused_or, is_one_of, vb_made, vb_at, save_line, replica_at, client_at, bytes_at, hang_at, pull_at, clock_at, flush_line, chain_line, tick_line}
 use Rattle.node_world.specs.Turns.{admin_line}
 use Rattle.node_world.specs.World.{down_in, with_link}
@@ -62,6 +62,7 @@ at_node uuids n (node_line.Hang c) = hang_at c
 at_node uuids n (node_line.Pull c frames) = pull_at c frames
 at_node uuids n (node_line.Clock nanos) = clock_at nanos
 at_node uuids n (node_line.Seal v) = admin_line n v admin.Seal
+at_node uuids n (node_line.Trim v) = admin_line n v admin.Trim
 at_node uuids n (node_line.Take v) = flush_line n v part.Take
 at_node uuids n (node_line.Save v) = save_line n v
 at_node uuids n (node_line.Done v) = flush_line n v part.Done
@@ -79,6 +80,7 @@ abbrev pub at_link : LinkVerb → PlainWorld → PlainLink → PlainWorld × Lin
 at_link (link_verb.Up wanted) w link = end_line w (producer_node link) link (up_at wanted link)
 at_link (link_verb.Down wanted) w link = end_line w (consumer_node link) link (down_in wanted link)
 at_link (link_verb.Pump frames) w link = end_line w (producer_node link) link (pump_at frames link)
+at_link link_verb.Drop w link = end_line w (producer_node link) link (drop_at link)
 at_link link_verb.Cut w link = (w, (None, done (event.Ended (link_number link) reason.Cut ∷ [])))
 
 -- a line for the link of a number

@@ -14,6 +14,7 @@ use Rattle.vb_calls.specs.Jobs.{after_job}
 use Rattle.vb_calls.specs.Programs.{after}
 use Rattle.vb_calls.specs.Shelves.{Shelves}
 use Rattle.vb_calls.specs.States.{States}
+use Rattle.dcp_producer.specs.Dropping.{cursor_dropped}
 use Rattle.dcp_producer.specs.Producers.{PlainProducer, new_end}
 use Rattle.dcp_consumer.specs.Dialing.{requests}
 use Rattle.dcp_consumer.specs.Machine.{PlainConsumer, dialed_consumer, over_why}
@@ -177,3 +178,11 @@ pump_result link node (states, told) = (with_states node states, (Some (with_ser
 -- `pump L K` at the producer's node
 abbrev pub pump_at : ℕ → PlainLink → PlainNode → PlainNode × LinkResult
 pump_at frames link node = pump_result link node (after (peer_pulled frames (peer_of link)) node.vbs)
+
+-- the producer's node and the link after a stream's cursor was taken away, which made this of the vBuckets: whether it had one
+abbrev pub drop_result : PlainLink → PlainNode → States × Bool → PlainNode × LinkResult
+drop_result link node (states, had) = (with_states node states, (Some link, moved (if had then 1 else 0) []))
+
+-- `drop L` at the producer's node: of the stream of the vBucket that the link feeds
+abbrev pub drop_at : PlainLink → PlainNode → PlainNode × LinkResult
+drop_at link node = drop_result link node (after (cursor_dropped link.consumer.dialed.vb link.server) node.vbs)

@@ -44,12 +44,13 @@ line_of_call (node, told) = (node, call_told told)
 -- no call of these changes a role
 abbrev pub KeepsRole : AdminCall → Type 0
 KeepsRole admin.Seal = Unit {0}
+KeepsRole admin.Trim = Unit {0}
 KeepsRole admin.Stat = Unit {0}
 KeepsRole admin.Show = Unit {0}
 KeepsRole admin.Log = Unit {0}
 KeepsRole other = ⊥
 
--- `seal N V`, `stat N V`, `log N V` and `show N V` at the node N
+-- `seal N V`, `trim N V`, `stat N V`, `log N V` and `show N V` at the node N
 abbrev pub admin_line : ℕ → ℕ → AdminCall → PlainNode → PlainNode × Told
 admin_line n v asked node = line_of_call (called_at n v asked node)
 

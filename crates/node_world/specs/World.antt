@@ -34,7 +34,7 @@ use Rattle.node_world.specs.Dues.{done_step}
 use Rattle.node_world.specs.Pumps.{gives_at}
 use Rattle.node_world.specs.Turns.{promote_step, turn_step, admin_line}
 pub use Rattle.node_world.specs.Links.{base_of}
-use Rattle.node_world.specs.Links.{PlainLink, LinkResult, link_number, producer_node, consumer_node, is_taken, ask_of, new_link, up_at, down_at, pump_at}
+use Rattle.node_world.specs.Links.{PlainLink, LinkResult, link_number, producer_node, consumer_node, is_taken, ask_of, new_link, up_at, down_at, pump_at, drop_at}
 
 -- `node N`: the causes to refuse it, in their order
 abbrev pub node_causes : PlainWorld → ℕ → List (Bool × Cause)
@@ -146,6 +146,7 @@ vb_verb_step w n v vb_verb.Follow = with_arm n w (turn_step w n v role.Replica a
 vb_verb_step w n v vb_verb.Dead = with_arm n w (turn_step w n v role.Dead admin.Dead)
 vb_verb_step w n v vb_verb.Tick = on_node w n (tick_line n v)
 vb_verb_step w n v vb_verb.Seal = on_node w n (admin_line n v admin.Seal)
+vb_verb_step w n v vb_verb.Trim = on_node w n (admin_line n v admin.Trim)
 vb_verb_step w n v vb_verb.Take = on_node w n (flush_line n v part.Take)
 vb_verb_step w n v vb_verb.Save = with_arm n w (on_node w n (save_line n v))
 vb_verb_step w n v vb_verb.Done = done_step w n v
@@ -165,6 +166,7 @@ abbrev pub link_verb_step : PlainWorld → ℕ → LinkVerb → Outcome
 link_verb_step w l (link_verb.Up wanted) = on_link w l producer_node (up_at wanted)
 link_verb_step w l (link_verb.Down wanted) = down_step w l wanted
 link_verb_step w l (link_verb.Pump frames) = pump_step w l frames
+link_verb_step w l link_verb.Drop = on_link w l producer_node drop_at
 link_verb_step w l link_verb.Cut = cut_step w l
 
 -- the world after the line of this number, by what its verb names

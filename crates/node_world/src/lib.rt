@@ -14,6 +14,7 @@ mod owed_laws;
 mod plumbing_laws;
 mod posts;
 mod power;
+mod producer_ends;
 mod pump_laws;
 mod pumps;
 mod script_node;
@@ -34,8 +35,9 @@ pub use leaving_laws::{
 };
 pub use link::Link;
 pub use owed_laws::{
-    bytes_move_as_asked, dones_acknowledge, lines_are_calls, lines_pass_their_arguments,
-    roles_are_as_named, settled_ones_are_told, starts_count, writes_are_clocked,
+    bytes_move_as_asked, cursors_are_dropped_as_named, dones_acknowledge, lines_are_calls,
+    lines_pass_their_arguments, roles_are_as_named, settled_ones_are_told, starts_count,
+    writes_are_clocked,
 };
 pub use plumbing_laws::{
     buffers_become_windows, ends_are_links, failures_are_told, lines_are_told_in_order,

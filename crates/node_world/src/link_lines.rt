@@ -1,7 +1,7 @@
 //! Lines for links, at the nodes that keep their ends.
 ghost use Rattle.std.specs.Prelude.{◌≡◌, ◌==◌, false, IfOk};
 ghost use Rattle.{std.specs.List.{position}, node_world.specs.Ends.{LinkStep, Unlinks}, node_world.specs.Stands.{node_number}};
-ghost use Rattle.script_text.specs.declared.verb.LinkVerb.TheVariants.{Up, Down, Pump, Cut};
+ghost use Rattle.script_text.specs.declared.verb.LinkVerb.TheVariants.{Up, Down, Pump, Drop, Cut};
 
 use crate::link::moved_len;
 use crate::{Alloc, Link, ScriptNode, Told};
@@ -76,6 +76,17 @@ fn pump(alloc: Global, nodes: &mut [ScriptNode], link: &mut Link, frames: u32) -
     Ok(LinkCame::on(Told::of(out)))
 }
 
+/// Takes the cursor of a link's stream away, at its producer.
+fn drop_cursor(alloc: Global, nodes: &mut [ScriptNode], link: &Link) -> LinkCame
+    ensures { LinkStep Drop nodes.old link.now result.told result.over nodes.new link.now }
+{
+    let Some(at) = node_place(nodes, link.producer) else {
+        return LinkCame::on(Told::refusal(alloc, Cause::UnknownNode));
+    };
+    let out = nodes[at].drop_peer(link.conn, link.vb);
+    LinkCame::on(Told::of(out))
+}
+
 /// Cuts a link at its consumer.
 fn cut(alloc: Global, nodes: &mut [ScriptNode], link: &mut Link) -> Alloc<LinkCame>
     ensures { IfOk result (λ came. LinkStep Cut nodes.old link.old came.told came.over nodes.new link.new) }
@@ -103,6 +114,7 @@ pub fn link_line(
         LinkVerb::Up { bytes } => up(alloc, nodes, link, bytes),
         LinkVerb::Down { bytes } => down(alloc, nodes, link, bytes),
         LinkVerb::Pump { frames } => pump(alloc, nodes, link, frames),
+        LinkVerb::Drop => Ok(drop_cursor(alloc, nodes, link)),
         LinkVerb::Cut => cut(alloc, nodes, link),
     }
 }

@@ -9,6 +9,7 @@ ghost use Rattle.node_world.specs.BytesMoved.{BytesMoved};
 ghost use Rattle.node_world.specs.CallsMade.{CallsMade};
 ghost use Rattle.node_world.specs.Clocked.{Clocked, IsOne};
 ghost use Rattle.node_world.specs.Counted.{Counted};
+ghost use Rattle.node_world.specs.CursorsDropped.{DropsCursor};
 ghost use Rattle.node_world.specs.Links.{PlainLink, consumer_node, link_number, producer_node};
 ghost use Rattle.node_world.specs.Nodes.{PlainNode};
 ghost use Rattle.node_world.specs.OutcomesTold.{EndsTold, OutcomesTold, PumpsTell, RolesTold, UpsTell};
@@ -67,6 +68,12 @@ pub fn settled_ones_are_told()
 pub fn bytes_move_as_asked()
     ensures { (w : PlainWorld) (l : ℕ) (link : PlainLink) (producer node : PlainNode) → row_at link_number l w.links ≡ Some link → w.nodes (producer_node link) ≡ Some producer → w.nodes (consumer_node link) ≡ Some node
         → BytesMoved w l link producer node }
+{}
+
+/// `drop` takes the cursor away of the stream that feeds the link's vBucket, at its producer's node, and
+/// of no other. It is answered by 1 where there was one, and by 0 where there was none, or no such stream.
+pub fn cursors_are_dropped_as_named()
+    ensures { (w : PlainWorld) (l : ℕ) (link : PlainLink) (producer : PlainNode) → row_at link_number l w.links ≡ Some link → w.nodes (producer_node link) ≡ Some producer → DropsCursor w l link producer }
 {}
 
 /// A write of a client is made at its node's clock, and a durable one is given up by it.

@@ -2,20 +2,18 @@
 ghost use Rattle.std.specs.Prelude.{◌≡◌, ◌≢◌, ◌<◌, ◌++◌, if◌then◌else◌, ℕ, List, [], is_some, not, IfOk, OnOk, None, Some};
 ghost use Rattle.{node_core.specs.Outcomes.{value_at, Renumbered}, node_core.specs.declared.node.TheConstants.{MAX_VBS}};
 ghost use Rattle.node_world.specs.Arms.{no_arm};
-ghost use Rattle.node_world.specs.Ends.{Carries, IsThere, AddsShelf, LiftsArm, PlacesArm, OpensPeer, FeedsPeer, AnswersPeer, RefusesChain, PullsPeer, ShutsPeer, DialsFor, FeedsDial, DuesDial, CutsDial, SetsRole};
+ghost use Rattle.node_world.specs.Ends.{Carries, IsThere, AddsShelf, LiftsArm, PlacesArm, RefusesChain, DialsFor, FeedsDial, DuesDial, CutsDial, SetsRole};
 ghost use Rattle.node_world.specs.Lines.{was_there, counted, made_unless, at_node};
 ghost use Rattle.{node_world.specs.Nodes.{PlainNode, bad_chain_cause, first_cause, limit_causes, uuid_causes, client_at, bytes_at, hang_at, pull_at, clock_at, flush_line, save_line, chain_line, tick_line}, node_world.specs.Stands.{IdsStand, NodeMatch}};
 ghost use Rattle.{node_world.specs.Turns.{KeepsRole, admin_line}, vb_types.specs.declared.role.Role.TheVariants.{Active, Pending}};
 
 use crate::{Alloc, Arm, Bases, Ids, Told};
-use bytes::{Bytes, BytesMut};
 use disk_journals::{DiskJournals, Disks};
 use durability::Chain;
-use mcbp_frame::Frame;
 use node_core::{AdminCall, ConnKind, MAX_VBS, Node, NodeOut, Numbered};
 use std::alloc::Global;
 use vb_disk::{Fuse, FuseDisk, MemDisk};
-use vb_events::{Answer, Cause, Event, StreamName};
+use vb_events::{Answer, Cause};
 use vb_types::{FlushPart, Listed, Role};
 use vbucket::VbMap;
 
@@ -54,6 +52,8 @@ pub enum NodeLine<'a> {
     Clock(u64),
     /// A vBucket's open span is sealed.
     Seal(u16),
+    /// A vBucket gives up the spans that are needed no more.
+    Trim(u16),
     /// A vBucket's next batch is taken.
     Take(u16),
     /// A vBucket's batch is appended.
@@ -98,22 +98,6 @@ pub fn forget_if(clients: &mut Numbered<usize>, c: u32, closed: bool)
     if closed {
         clients.remove(c);
     }
-}
-
-/// The bytes that were written, handed out.
-fn bytes_of(mut written: BytesMut) -> Alloc<Bytes>
-    ensures { IfOk result (λ bytes. bytes ≡ written.items) }
-{
-    written.freeze_to(written.len())
-}
-
-/// What an answered frame handed out goes behind what the earlier ones did.
-fn hand_on(out: NodeOut, events: &mut Listed<Event>, bytes: &mut BytesMut) -> Alloc<()>
-    ensures events { OnOk result (events.new ≡ events.old ++ out.events) }
-    ensures bytes { OnOk result (bytes.new.items ≡ bytes.old.items ++ out.out) }
-{
-    bytes.extend_from_slice(out.out.as_slice())?;
-    events.append(out.events)
 }
 
 impl ScriptNode {
@@ -385,6 +369,7 @@ impl ScriptNode {
             NodeLine::Pull(c, frames) => self.pull_client(alloc, c, frames),
             NodeLine::Clock(nanos) => Ok(self.set_clock(alloc, nanos)),
             NodeLine::Seal(vb) => self.ask(vb, AdminCall::Seal),
+            NodeLine::Trim(vb) => self.ask(vb, AdminCall::Trim),
             NodeLine::Take(vb) => self.write_down(alloc, vb, FlushPart::Take),
             NodeLine::Save(vb) => self.save(alloc, vb),
             NodeLine::Done(vb) => self.write_down(alloc, vb, FlushPart::Done),
@@ -404,56 +389,6 @@ impl ScriptNode {
         let out = self.node.admin(v, call)?;
         self.lift_arm(v);
         Ok(out)
-    }
-
-    /// Opens the connection of a link's producer, and gives its key.
-    pub fn open_peer(&mut self, link: u32, base: u32) -> Alloc<usize>
-        ensures { IfOk result (λ key. OpensPeer link base self.old key self.new) }
-    {
-        self.node.open(ConnKind::Peer {
-            stream: StreamName::Link(link),
-            base,
-        })
-    }
-
-    /// Answers a frame of a link's consumer, and tells what became of durable writes with it.
-    fn answer_peer(&mut self, alloc: Global, key: usize, frame: &Frame) -> Alloc<NodeOut>
-        ensures { IfOk result (λ out. AnswersPeer key frame.now self.old out self.new) }
-    {
-        let mut out = self.node.answer(key, frame)?;
-        let outcomes = std::mem::replace(&mut out.resolved, Listed::new(alloc));
-        self.post_all(alloc, outcomes.as_slice(), &mut out.events)?;
-        Ok(out)
-    }
-
-    /// Gives a link's producer the next bytes from its consumer: the frames that are whole now are
-    /// answered, and what becomes of durable writes with one of them is told before the next.
-    pub fn feed_peer(&mut self, alloc: Global, key: usize, piece: &[u8]) -> Alloc<NodeOut>
-        ensures { IfOk result (λ out. FeedsPeer key piece.now self.old out self.new) }
-    {
-        let frames = self.node.hear(key, piece)?;
-        let mut events = Listed::new(alloc);
-        let mut bytes = BytesMut::new(alloc);
-        for frame in &frames {
-            let out = self.answer_peer(alloc, key, frame)?;
-            hand_on(out, &mut events, &mut bytes)?;
-        }
-        let answers = bytes_of(bytes)?;
-        Ok(NodeOut::done(alloc, events, answers))
-    }
-
-    /// Has a link's producer put frames of its streams.
-    pub fn pull(&mut self, key: usize, frames: u32) -> Alloc<NodeOut>
-        ensures { IfOk result (λ out. PullsPeer key frames self.old out self.new) }
-    {
-        self.node.pull(key, frames)
-    }
-
-    /// Closes the connection of a link's producer.
-    pub fn shut_peer(&mut self, conn: usize)
-        ensures { ShutsPeer conn self.old self.new }
-    {
-        self.node.shut(conn);
     }
 
     /// Dials for a vBucket, as the consumer of a link, to follow or to take over.

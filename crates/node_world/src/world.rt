@@ -386,6 +386,7 @@ impl World {
             VbVerb::Dead => self.set_role_armed(n, v, AdminCall::Dead),
             VbVerb::Tick => self.on_node(n, NodeLine::Tick(v)),
             VbVerb::Seal => self.on_node(n, NodeLine::Seal(v)),
+            VbVerb::Trim => self.on_node(n, NodeLine::Trim(v)),
             VbVerb::Take => self.on_node(n, NodeLine::Take(v)),
             VbVerb::Save => self.on_armed(n, NodeLine::Save(v)),
             VbVerb::Done => self.done(n, v),
@@ -418,6 +419,7 @@ impl World {
             LinkVerb::Up { bytes } => self.on_link(l, LinkVerb::Up { bytes }),
             LinkVerb::Down { bytes } => self.down(l, bytes),
             LinkVerb::Pump { frames } => self.pump(l, frames),
+            LinkVerb::Drop => self.on_link(l, LinkVerb::Drop),
             LinkVerb::Cut => self.on_link(l, LinkVerb::Cut),
         }
     }
