@@ -15,3 +15,4 @@ pub mod heirless
 pub mod balance
 pub mod awaiting
 pub mod ends
+pub mod fronts

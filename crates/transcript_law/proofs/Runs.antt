@@ -153,6 +153,7 @@ hands_of : (w : PlainWorld) (r : Chronicle) (number : ℕ) (line : Verb) → Bef
 hands_of w r number (Verb.AtLink l (LinkVerb.Up wanted)) b t = moves.hands w r number (Verb.AtLink l (LinkVerb.Up wanted)) refl b
 hands_of w r number (Verb.AtLink l (LinkVerb.Down wanted)) b t = moves.hands w r number (Verb.AtLink l (LinkVerb.Down wanted)) refl b
 hands_of w r number (Verb.AtLink l (LinkVerb.Pump wanted)) b t = moves.hands w r number (Verb.AtLink l (LinkVerb.Pump wanted)) refl b
+hands_of w r number (Verb.AtLink l LinkVerb.Drop) b t = let o = verb_step w number (Verb.AtLink l LinkVerb.Drop) in hands_beside r (Verb.AtLink l LinkVerb.Drop) o.1.events o.1.answer refl t
 hands_of w r number (Verb.AtLink l LinkVerb.Cut) b t = let o = verb_step w number (Verb.AtLink l LinkVerb.Cut) in hands_beside r (Verb.AtLink l LinkVerb.Cut) o.1.events o.1.answer refl t
 hands_of w r number (Verb.Node n) b t = let o = verb_step w number (Verb.Node n) in hands_beside r (Verb.Node n) o.1.events o.1.answer refl t
 hands_of w r number (Verb.Link l m n v buffer takeover) b t = let o = verb_step w number (Verb.Link l m n v buffer takeover) in hands_beside r (Verb.Link l m n v buffer takeover) o.1.events o.1.answer refl t
@@ -166,6 +167,7 @@ known_of_line : (w : PlainWorld) (r : Chronicle) (number : ℕ) (line : Verb) �
 known_of_line w r number (Verb.AtLink l (LinkVerb.Up wanted)) b t a = moves.known w r number (Verb.AtLink l (LinkVerb.Up wanted)) refl b a
 known_of_line w r number (Verb.AtLink l (LinkVerb.Down wanted)) b t a = moves.known w r number (Verb.AtLink l (LinkVerb.Down wanted)) refl b a
 known_of_line w r number (Verb.AtLink l (LinkVerb.Pump wanted)) b t a = moves.known w r number (Verb.AtLink l (LinkVerb.Pump wanted)) refl b a
+known_of_line w r number (Verb.AtLink l LinkVerb.Drop) b t a = still_line w r number (Verb.AtLink l LinkVerb.Drop) refl t tt b.agrees a b.handed.known
 known_of_line w r number (Verb.AtLink l LinkVerb.Cut) b t a = still_line w r number (Verb.AtLink l LinkVerb.Cut) refl t tt b.agrees a b.handed.known
 known_of_line w r number (Verb.Link l m n v buffer takeover) b t a = dial_line w r number l m n v buffer takeover b.handed.known a
 known_of_line w r number (Verb.Node n) b t a = still_line w r number (Verb.Node n) refl t (line_asked w r number (Verb.Node n) b.ranged b.agrees) b.agrees a b.handed.known
@@ -180,6 +182,7 @@ kept_of_line : (w : PlainWorld) (r : Chronicle) (number : ℕ) (line : Verb) →
 kept_of_line w r number (Verb.AtLink l (LinkVerb.Up wanted)) b t lines a known = moves.kept w r number (Verb.AtLink l (LinkVerb.Up wanted)) refl b lines a known
 kept_of_line w r number (Verb.AtLink l (LinkVerb.Down wanted)) b t lines a known = moves.kept w r number (Verb.AtLink l (LinkVerb.Down wanted)) refl b lines a known
 kept_of_line w r number (Verb.AtLink l (LinkVerb.Pump wanted)) b t lines a known = moves.kept w r number (Verb.AtLink l (LinkVerb.Pump wanted)) refl b lines a known
+kept_of_line w r number (Verb.AtLink l LinkVerb.Drop) b t lines a known = still_kept w r number (Verb.AtLink l LinkVerb.Drop) refl t tt b.agrees lines b.handed.freed.made a b.handed.kept
 kept_of_line w r number (Verb.AtLink l LinkVerb.Cut) b t lines a known = still_kept w r number (Verb.AtLink l LinkVerb.Cut) refl t tt b.agrees lines b.handed.freed.made a b.handed.kept
 kept_of_line w r number (Verb.Link l m n v buffer takeover) b t lines a known = dial_kept w r number l m n v buffer takeover b.agrees b.handed.freed.made b.handed.kept lines a
 kept_of_line w r number (Verb.Node n) b t lines a known = still_kept w r number (Verb.Node n) refl t (line_asked w r number (Verb.Node n) b.ranged b.agrees) b.agrees lines b.handed.freed.made a b.handed.kept
@@ -192,6 +195,7 @@ fits_of : (w : PlainWorld) (r : Chronicle) (number : ℕ) (line : Verb) → Befo
 fits_of w r number (Verb.AtLink l (LinkVerb.Up wanted)) b t lines later = moves.fits w r number (Verb.AtLink l (LinkVerb.Up wanted)) refl b lines later
 fits_of w r number (Verb.AtLink l (LinkVerb.Down wanted)) b t lines later = moves.fits w r number (Verb.AtLink l (LinkVerb.Down wanted)) refl b lines later
 fits_of w r number (Verb.AtLink l (LinkVerb.Pump wanted)) b t lines later = moves.fits w r number (Verb.AtLink l (LinkVerb.Pump wanted)) refl b lines later
+fits_of w r number (Verb.AtLink l LinkVerb.Drop) b t lines later = still_fits w r (ahead r (Verb.AtLink l LinkVerb.Drop) (verb_step w number (Verb.AtLink l LinkVerb.Drop)).1.answer) number (Verb.AtLink l LinkVerb.Drop) refl t tt
 fits_of w r number (Verb.AtLink l LinkVerb.Cut) b t lines later = still_fits w r (ahead r (Verb.AtLink l LinkVerb.Cut) (verb_step w number (Verb.AtLink l LinkVerb.Cut)).1.answer) number (Verb.AtLink l LinkVerb.Cut) refl t tt
 fits_of w r number (Verb.Link l m n v buffer takeover) b t lines later = dial_fits w r number l m n v buffer takeover
 fits_of w r number (Verb.Node n) b t lines later = still_fits w r (ahead r (Verb.Node n) (verb_step w number (Verb.Node n)).1.answer) number (Verb.Node n) refl t (line_asked w r number (Verb.Node n) b.ranged b.agrees)

@@ -104,7 +104,7 @@ pub use Rattle.vb_calls.specs.Roles.{ending_reply, in_role, is_role, led, parent
 pub use Rattle.vb_calls.specs.Spans.{Spans, all_spans, is_whole, last_at, no_spans, span_of, with_change, with_seal, own_joined}
 pub use Rattle.vb_calls.specs.State.{complete_position, doc_at, is_active, newest_branch, quiet_reply, refusal_reply, image_in}
 pub use Rattle.vb_calls.specs.States.{States, call_at, with_vb_at}
-pub use Rattle.vb_calls.specs.Streams.{end_span, need_of, new_stream, open_refusal, start_of, stream_at, take_from, take_to, close_row, without_stream, first_reason, id_refusal, is_ranged, judged_open, open_outcome}
+pub use Rattle.vb_calls.specs.Streams.{end_span, need_of, new_stream, open_refusal, stream_at, take_from, take_to, close_row, without_stream, first_reason, id_refusal, is_ranged, judged_open, open_outcome}
 pub use Rattle.vb_calls.specs.Writes.{growth, new_cas, new_rev, write_change, written_doc, act_of}
 pub use Rattle.vb_calls.specs.declared.calls.VbAnswer.{VbAnswer}
 pub use Rattle.vb_calls.specs.declared.calls.VbCall.{VbCall}

@@ -17,3 +17,4 @@ pub mod Reloading
 pub mod Shelving
 pub mod Fired
 pub mod Batches
+pub mod Backfills

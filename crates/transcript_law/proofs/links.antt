@@ -8,6 +8,7 @@ pub mod Cutting
 pub mod Takes
 pub mod Downing
 pub mod DownAsks
+pub mod DropRows
 pub mod Exactly
 pub mod Firsts
 pub mod Followed
@@ -41,6 +42,7 @@ pub mod Talks
 pub mod Tips
 pub mod Turning
 pub mod Given
+pub mod Dropped
 pub mod Turns
 pub mod StreamTurns
 pub mod Unread

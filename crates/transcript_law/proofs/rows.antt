@@ -53,6 +53,9 @@ pub mod TakeoverRows
 pub mod TellingRows
 pub mod StateRows
 pub mod UndoneRows
+pub mod UnreadRows
+pub mod ClientStreamUnread
+pub mod TrimRows
 pub mod ClientStreamAnswers
 pub mod ClientStreamAsks
 pub mod ClientStreamClosings

@@ -68,3 +68,4 @@ pub mod StoredLines
 pub mod Unclosed
 pub mod BreakLines
 pub mod EndsKnown
+pub mod Trimming

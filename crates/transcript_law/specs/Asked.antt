@@ -116,6 +116,7 @@ AskedOfVb n v vb_verb.Follow lines said = TellsOnce (TurnsTo n v role.Replica) l
 AskedOfVb n v vb_verb.Dead lines said = TellsOnce (TurnsTo n v role.Dead) lines said
 AskedOfVb n v vb_verb.Tick lines said = Unit {0}
 AskedOfVb n v vb_verb.Seal lines said = Unit {0}
+AskedOfVb n v vb_verb.Trim lines said = Unit {0}
 AskedOfVb n v vb_verb.Take lines said = Unit {0}
 AskedOfVb n v vb_verb.Save lines said = Unit {0}
 AskedOfVb n v vb_verb.Done lines said = Unit {0}

@@ -187,6 +187,18 @@ waiting_now = ([], answer.Pulled 0 why.WaitSaved)
 abbrev pub full_now : Said
 full_now = ([], answer.Pulled 0 why.Full)
 
+-- or as if the journal of one could not be read
+abbrev pub unread_now : Said
+unread_now = ([], answer.Pulled 0 why.Disk)
+
+-- each vBucket counts the changes up to this seqno as saved, and its journal is closed, or is not
+abbrev pub journal_so : Bool → ℕ → Chronicle → Chronicle
+journal_so closed seq read = record read { disk_at = λ n v. record blank_disk { there = true; saved = seq; closed = closed } }
+
+-- so a pull over the connection is answered then
+abbrev pub LawfulUnread : Bool → ℕ → List Change → ClientKnown → Type 0
+LawfulUnread closed seq changes known = LawfulHere (journal_so closed seq (serving changes known)) (verb.AtClient 0 1 (client_verb.Pull 9)) unread_now
+
 -- each vBucket counts the changes up to this seqno as saved
 abbrev pub saved_to : ℕ → Chronicle → Chronicle
 saved_to seq read = record read { disk_at = λ n v. record blank_disk { saved = seq } }

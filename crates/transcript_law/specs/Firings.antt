@@ -31,6 +31,7 @@ abbrev pub may_write : VbKind → Bool
 may_write kind.Plain = false
 may_write kind.Notes = true
 may_write kind.Seals = false
+may_write kind.Trims = false
 may_write kind.Takes = false
 may_write kind.Saves = true
 may_write kind.Counts = false
@@ -49,6 +50,7 @@ writes_at chronicle (verb.AtClient n c what) = None
 writes_at chronicle (verb.AtLink l (link_verb.Up wanted)) = None
 writes_at chronicle (verb.AtLink l (link_verb.Down wanted)) = option_map (λ (dial : Dial). dial.node) (chronicle.dial_of l)
 writes_at chronicle (verb.AtLink l (link_verb.Pump wanted)) = None
+writes_at chronicle (verb.AtLink l link_verb.Drop) = None
 writes_at chronicle (verb.AtLink l link_verb.Cut) = None
 
 -- the others of these lines than those of rollbacks

@@ -25,6 +25,7 @@ pub mod Ends
 pub mod EndRows
 pub mod FiredArms
 pub mod Firings
+pub mod Fronts
 pub mod Followers
 pub mod Journals
 pub mod LinesTold
@@ -59,6 +60,8 @@ pub mod Tellings
 pub mod Unanswered
 pub mod Undone
 pub mod UndoneRows
+pub mod TrimRows
+pub mod Unread
 pub mod TellingRows
 pub mod StateRows
 pub mod AnsweredRows

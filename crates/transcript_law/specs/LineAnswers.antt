@@ -11,6 +11,7 @@ use Rattle.vb_events.specs.declared.event.Answer.{Answer}
 use Rattle.vb_events.specs.declared.event.Answer.TheVariants as answer
 use Rattle.vb_events.specs.declared.event.Event.{Event}
 use Rattle.vb_events.specs.declared.event.Event.TheVariants as event
+use Rattle.vb_events.specs.declared.event.StreamName.TheVariants as name
 use Rattle.vb_events.specs.declared.event.Cause.{Cause}
 use Rattle.vb_events.specs.declared.event.Cause.TheVariants as cause
 use Rattle.branch_model.specs.Journals.{role_of}
@@ -22,7 +23,7 @@ use Rattle.disk_journals.specs.Books.{below}
 use Rattle.vb_disk.specs.declared.fuse.Fuse.{Fuse}
 use Rattle.vb_disk.specs.declared.fuse.Fuse.TheVariants.{Off, Stop, Fail}
 use Rattle.transcript_law.specs.Clients.{ClientAnswer, IsCrashed}
-use Rattle.transcript_law.specs.LinesTold.{is_dial_for}
+use Rattle.transcript_law.specs.LinesTold.{Granted, is_dial_for}
 use Rattle.transcript_law.specs.Ends.{Dials, NoneFor}
 pub use Rattle.transcript_law.specs.Pulls.{PutsAsTold, frames_in_lines, is_frame}
 use Rattle.transcript_law.specs.Chronicles.{Chronicle, Dial, DiskKnown, Taken, Written, calls_of_append, conns_lines, disks_of, is_rise, is_rollback, rollback_of, vb_numbers}
@@ -79,6 +80,23 @@ IsSealed at changed answer.Ok = ⊥
 IsSealed at changed (answer.Number n) = SealsAs at changed n
 IsSealed at changed (answer.Pulled n said) = ⊥
 IsSealed at changed (answer.No cause) = Unit {0}
+
+-- so many spans of a vBucket were given up, one by one: it is there, none of them is empty, and all that is in them counts as saved
+abbrev pub IsTrimmed : DiskKnown → Answer → Type 0
+IsTrimmed d answer.Ok = ⊥
+IsTrimmed d (answer.Number n) = (d.there ≡ true) × (n ≤ d.saved)
+IsTrimmed d (answer.Pulled n said) = ⊥
+IsTrimmed d (answer.No cause) = Unit {0}
+
+-- a cursor was taken away over the link l, 1, or there was none, 0; it was that of the link's stream, which was let continue and is not over
+abbrev pub DropsOne : Chronicle → ℕ → Type 0
+DropsOne chronicle l = (dial : Dial) × (g : Granted) × (chronicle.dial_of l ≡ Some dial) × (chronicle.stream_of (name.Link l) dial.vb ≡ Some g) × (g.over ≡ false)
+
+abbrev pub IsDropped : Chronicle → ℕ → Answer → Type 0
+IsDropped chronicle l answer.Ok = ⊥
+IsDropped chronicle l (answer.Number n) = (n ≤ 1) × (n ≡ 1 → DropsOne chronicle l)
+IsDropped chronicle l (answer.Pulled n said) = ⊥
+IsDropped chronicle l (answer.No why) = IsOver (chronicle.dial_of l) why
 
 -- of these batches the lines tell: the node, the vBucket and the count of changes of each
 abbrev pub batches_in_lines : List Event → List (ℕ × (ℕ × ℕ))
@@ -262,11 +280,12 @@ pub data VbKind : Type 0 where
   Plain : VbKind
   Notes : VbKind
   Seals : VbKind
+  Trims : VbKind
   Takes : VbKind
   Saves : VbKind
   Counts : VbKind
 
--- each verb for a vBucket is of one kind: it appends a role, seals, takes a batch, appends it, counts it as saved, or does nothing that is counted
+-- each verb for a vBucket is of one kind: it appends a role, seals, trims, takes a batch, appends it, counts it as saved, or does nothing that is counted
 abbrev pub vb_kind : VbVerb → VbKind
 vb_kind (vb_verb.MakeActive uuid) = Notes
 vb_kind vb_verb.MakeReplica = Notes
@@ -276,6 +295,7 @@ vb_kind vb_verb.Follow = Notes
 vb_kind vb_verb.Dead = Notes
 vb_kind vb_verb.Tick = Plain
 vb_kind vb_verb.Seal = Seals
+vb_kind vb_verb.Trim = Trims
 vb_kind vb_verb.Take = Takes
 vb_kind vb_verb.Save = Saves
 vb_kind vb_verb.Done = Counts
@@ -288,6 +308,7 @@ abbrev pub KindAnswer : Chronicle → ℕ → ℕ → VbKind → List Event → 
 KindAnswer chronicle n v Plain lines said = IsCarriedOut said
 KindAnswer chronicle n v Notes lines said = IsNotedAt chronicle n v said
 KindAnswer chronicle n v Seals lines said = IsSealed (chronicle.role_at n v) (chronicle.open_at n v) said
+KindAnswer chronicle n v Trims lines said = IsTrimmed (chronicle.disk_at n v) said
 KindAnswer chronicle n v Takes lines said = IsTaken n v lines said
 KindAnswer chronicle n v Saves lines said = IsNotedAt chronicle n v said × IsAppended (chronicle.disk_at n v) said
 KindAnswer chronicle n v Counts lines said = IsSaved (chronicle.disk_at n v) said
@@ -306,4 +327,5 @@ LawfulAnswer chronicle (verb.AtClient n c what) lines said = ClientAnswer (chron
 LawfulAnswer chronicle (verb.AtLink l (link_verb.Up wanted)) lines said = IsMoved (chronicle.dial_of l) wanted said
 LawfulAnswer chronicle (verb.AtLink l (link_verb.Down wanted)) lines said = IsTakenDown wanted (back_of chronicle l) (closed_of_dial chronicle (chronicle.dial_of l)) (arm_of_dial chronicle (chronicle.dial_of l)) lines said × IsOverIfNo (chronicle.dial_of l) said
 LawfulAnswer chronicle (verb.AtLink l (link_verb.Pump wanted)) lines said = IsPumped (chronicle.dial_of l) wanted lines said
+LawfulAnswer chronicle (verb.AtLink l link_verb.Drop) lines said = IsDropped chronicle l said
 LawfulAnswer chronicle (verb.AtLink l link_verb.Cut) lines said = IsCut (chronicle.dial_of l) said

@@ -49,14 +49,19 @@ NoneTakesOn chronicle l = (dial : Dial) (g : Granted) → TakesOn chronicle l di
 -- why a `pump` of the link l stopped, behind its lines: what comes first of why it may is said
 abbrev pub StopsFor : Chronicle → ℕ → Why → Type 0
 StopsFor chronicle l why.WaitSaved = NoneAwaits chronicle l
+StopsFor chronicle l why.Disk = NoneAwaits chronicle l
 StopsFor chronicle l why.Idle = NoneTakesOn chronicle l
 StopsFor chronicle l why.All = Unit {0}
 StopsFor chronicle l why.Full = Unit {0}
 StopsFor chronicle l why.WaitState = Unit {0}
 
--- a vBucket is given up for the frame that is asked for next: that is put, unless it waits for what is to be saved
+-- what is to be put comes later: it waits for what is to be saved, or its journal can't be read
+abbrev pub ComesLater : Why → Type 0
+ComesLater said = (said ≡ why.WaitSaved) ⊎ (said ≡ why.Disk)
+
+-- a vBucket is given up for the frame that is asked for next: that is put, unless it comes later
 abbrev pub PutsBehind : Chronicle → ℕ → List Event → ℕ → Why → Type 0
-PutsBehind chronicle l lines n said = turns_feeder (chronicle.dial_of l) lines ≡ true → (n ≢ 0) ⊎ (said ≡ why.WaitSaved)
+PutsBehind chronicle l lines n said = turns_feeder (chronicle.dial_of l) lines ≡ true → (n ≢ 0) ⊎ ComesLater said
 
 -- so a `pump` is answered
 abbrev pub PumpsOn : Chronicle → Verb → List Event → Answer → Type 0

@@ -78,6 +78,7 @@ MovesAt chronicle None l what lines = ⊥
 MovesAt chronicle (Some dial) l (link_verb.Up wanted) lines = ⊥
 MovesAt chronicle (Some dial) l (link_verb.Down wanted) lines = IsAboutTo chronicle l dial.node dial.vb lines ⊎ TakesOver chronicle l dial.node dial.vb lines
 MovesAt chronicle (Some dial) l (link_verb.Pump frames) lines = GivesUp chronicle l dial lines
+MovesAt chronicle (Some dial) l link_verb.Drop lines = ⊥
 MovesAt chronicle (Some dial) l link_verb.Cut lines = ⊥
 
 -- no other line of a script hands a vBucket over

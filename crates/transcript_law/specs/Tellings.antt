@@ -156,6 +156,7 @@ at_vb chronicle n v vb_verb.Follow line = is_of_turn chronicle n v line || is_of
 at_vb chronicle n v vb_verb.Dead line = is_of_turn chronicle n v line || is_of_disk n line
 at_vb chronicle n v vb_verb.Tick line = is_of_clients n line
 at_vb chronicle n v vb_verb.Seal line = is_none line
+at_vb chronicle n v vb_verb.Trim line = is_none line
 at_vb chronicle n v vb_verb.Take line = is_of_batch n v line
 at_vb chronicle n v vb_verb.Save line = is_of_disk n line
 at_vb chronicle n v vb_verb.Done line = is_of_clients n line || is_of_ack n v line
@@ -174,6 +175,7 @@ at_link None l what line = is_none line
 at_link (Some dial) l (link_verb.Up wanted) line = is_of_up l line || is_of_clients dial.producer line
 at_link (Some dial) l (link_verb.Down wanted) line = is_of_down l dial.node dial.vb line || is_of_disk dial.node line
 at_link (Some dial) l (link_verb.Pump frames) line = is_of_pump l line
+at_link (Some dial) l link_verb.Drop line = is_none line
 at_link (Some dial) l link_verb.Cut line = is_of_cut l line
 
 -- what a line may tell, up to where a node stops

@@ -26,6 +26,7 @@ use Rattle.transcript_law.specs.Questions.{flow_now}
 use Rattle.transcript_law.specs.LinesTold.{Chronicle, Dial, Granted, after_lines}
 use Rattle.transcript_law.specs.TakeoverAnswers.{StateAwaited}
 use Rattle.transcript_law.specs.LawfulClients.{AllQuiet, AllRest, OneWaits}
+use Rattle.transcript_law.specs.Unread.{StopsForDisk}
 pub use Rattle.transcript_law.specs.StreamLaws.{EndsThere, IsPutWhole}
 
 -- ---- what is to be written down
@@ -102,11 +103,12 @@ is_taking other = false
 
 -- ---- by the answer
 
--- a line with these lines that is answered so, after what was read before it, leaves nothing undone of what it is for: a `take` takes no change only where each was taken; behind a `down` by which a vBucket took something all was acknowledged that is due; a `pump` or a `pull` is idle only where its streams have no more to put; and a `pull` waits for what is to be saved only where one of its streams does, and none has a frame, and is full only where its connection's window is shut
+-- a line with these lines that is answered so, after what was read before it, leaves nothing undone of what it is for: a `take` takes no change only where each was taken; behind a `down` by which a vBucket took something all was acknowledged that is due; a `pump` or a `pull` is idle only where its streams have no more to put; and a `pull` waits for what is to be saved only where one of its streams does, and none has a frame, and is full only where its connection's window is shut; and they end for a journal only where a stream goes on from one that can't be read
 abbrev pub LeavesNone : Chronicle → Verb → List Event → Answer → Type 0
 LeavesNone chronicle asked lines (answer.Number n) = (n ≡ 0 → NoneToTake chronicle asked) × (list_any is_taking lines ≡ true → NoneToAcknowledge (after_lines chronicle lines) asked)
 LeavesNone chronicle asked lines (answer.Pulled n why.Idle) = NoneToPut (after_lines chronicle lines) asked
 LeavesNone chronicle asked lines (answer.Pulled n why.WaitSaved) = WaitsForOne (after_lines chronicle lines) asked
 LeavesNone chronicle asked lines (answer.Pulled n why.Full) = IsShutFor (after_lines chronicle lines) asked
 LeavesNone chronicle asked lines (answer.Pulled n why.WaitState) = StateAwaited chronicle asked lines
+LeavesNone chronicle asked lines (answer.Pulled n why.Disk) = StopsForDisk (after_lines chronicle lines) asked
 LeavesNone chronicle asked lines other = Unit {0}

@@ -1,5 +1,5 @@
 -- lines that leave something undone, to be judged by hand
-use Rattle.std.specs.Prelude.{ℕ, true, List, [], ◌∷◌, ◌++◌}
+use Rattle.std.specs.Prelude.{ℕ, Bool, true, List, [], ◌∷◌, ◌++◌}
 use Rattle.script_text.specs.declared.verb.Verb.{Verb}
 use Rattle.script_text.specs.declared.verb.Verb.TheVariants as verb
 use Rattle.script_text.specs.declared.verb.LinkVerb.TheVariants as link_verb
@@ -15,7 +15,7 @@ use Rattle.transcript_law.specs.BoundRows.{LawfulHere}
 use Rattle.transcript_law.specs.Chronicles.{Chronicle, after_dial, after_group, after_line, after_lines, after_roll, blank_disk, empty_chronicle}
 use Rattle.transcript_law.specs.Commits.{prepare_of}
 use Rattle.transcript_law.specs.Crashes.{Said}
-use Rattle.transcript_law.specs.Followers.{adopted_lines, after_both, both_changed, first_item_line, granted_lines, marker_line, next_change}
+use Rattle.transcript_law.specs.Followers.{adopted_lines, after_both, both_changed, both_sent_lines, first_item_line, granted_lines, marker_line, next_change}
 use Rattle.transcript_law.specs.Journals.{batch_lines, with_stood, within}
 use Rattle.transcript_law.specs.Transcripts.{active_vb_lines}
 use Rattle.transcript_law.specs.Undone.{LeavesNone}
@@ -71,9 +71,27 @@ puts_none = ([], answer.Pulled 0 why.Idle)
 abbrev pub is_shut : Said
 is_shut = ([], answer.Pulled 0 why.Full)
 
+-- and as its journal can't be read
+abbrev pub unread_now : Said
+unread_now = ([], answer.Pulled 0 why.Disk)
+
 -- what was read when the link's stream was granted, and its vBucket has two changes
 abbrev pub granted_both : Chronicle
 granted_both = after_lines (after_dial empty_chronicle 1 0 1 0 answer.Ok) (active_vb_lines 0 5 ++ both_changed ++ granted_lines ++ adopted_lines 5)
+
+-- the vBucket counts the changes up to this seqno as saved, and its journal is closed, or is not
+abbrev pub journal_so : Bool → ℕ → Chronicle → Chronicle
+journal_so closed seq chronicle = record chronicle { disk_at = λ n v. record blank_disk { there = true; saved = seq; closed = closed } }
+
+-- it puts both, or the first of a snapshot of both, or the end, and then its journal can't be read
+abbrev pub both_unread : Said
+both_unread = (both_sent_lines, answer.Pulled 3 why.Disk)
+
+abbrev pub half_unread : Said
+half_unread = (marker_line 0 2 ∷ first_item_line ∷ [], answer.Pulled 2 why.Disk)
+
+abbrev pub end_unread : Said
+end_unread = (event.Finished (name.Link 1) 2 ∷ [], answer.Pulled 1 why.Disk)
 
 -- it puts the first change of a snapshot of both, and of one that it is the whole of
 abbrev pub puts_half : Said

@@ -31,6 +31,7 @@ pub fn judged_down_lines()
     ensures follow { (v : ℕ) → IsRefusedFor zero_down cause.NodeDown (verb.AtVb 0 v vb_verb.Follow) }
     ensures dead { (v : ℕ) → IsRefusedFor zero_down cause.NodeDown (verb.AtVb 0 v vb_verb.Dead) }
     ensures seal { (v : ℕ) → IsRefusedFor zero_down cause.NodeDown (verb.AtVb 0 v vb_verb.Seal) }
+    ensures trim { (v : ℕ) → IsRefusedFor zero_down cause.NodeDown (verb.AtVb 0 v vb_verb.Trim) }
     ensures take { (v : ℕ) → IsRefusedFor zero_down cause.NodeDown (verb.AtVb 0 v vb_verb.Take) }
     ensures save { (v : ℕ) → IsRefusedFor zero_down cause.NodeDown (verb.AtVb 0 v vb_verb.Save) }
     ensures done { (v : ℕ) → IsRefusedFor zero_down cause.NodeDown (verb.AtVb 0 v vb_verb.Done) }
@@ -55,10 +56,12 @@ pub fn judged_closed_links()
     ensures up { (wanted : ℕ) → IsRefusedFor one_over cause.LinkClosed (verb.AtLink 1 (link_verb.Up wanted)) }
     ensures down { (wanted : ℕ) → IsRefusedFor one_over cause.LinkClosed (verb.AtLink 1 (link_verb.Down wanted)) }
     ensures pump { (wanted : ℕ) → IsRefusedFor one_over cause.LinkClosed (verb.AtLink 1 (link_verb.Pump wanted)) }
+    ensures drop { IsRefusedFor one_over cause.LinkClosed (verb.AtLink 1 link_verb.Drop) }
     ensures cut { IsRefusedFor one_over cause.LinkClosed (verb.AtLink 1 link_verb.Cut) }
     ensures up_undialed { (l wanted : ℕ) → IsRefusedFor empty_chronicle cause.LinkClosed (verb.AtLink l (link_verb.Up wanted)) }
     ensures down_undialed { (l wanted : ℕ) → IsRefusedFor empty_chronicle cause.LinkClosed (verb.AtLink l (link_verb.Down wanted)) }
     ensures pump_undialed { (l wanted : ℕ) → IsRefusedFor empty_chronicle cause.LinkClosed (verb.AtLink l (link_verb.Pump wanted)) }
+    ensures drop_undialed { (l : ℕ) → IsRefusedFor empty_chronicle cause.LinkClosed (verb.AtLink l link_verb.Drop) }
     ensures cut_undialed { (l : ℕ) → IsRefusedFor empty_chronicle cause.LinkClosed (verb.AtLink l link_verb.Cut) }
     ensures cuts { LawfulHere one_dialed (verb.AtLink 1 link_verb.Cut) (ok (event.Ended 1 reason.Cut ∷ [])) }
     ensures other { (wanted : ℕ) → IsRefusedFor one_dialed cause.LinkClosed (verb.AtLink 2 (link_verb.Up wanted)) }

@@ -1,7 +1,7 @@
 //! What a transcript tells of the streams of clients, lawfully or not.
 
 ghost use Rattle.std.specs.Prelude.{◌≡◌, ℕ, ◌-◌, ◌^◌, List, [], ◌∷◌, ◌++◌, codes, take, true, false, replicate, Some, None};
-ghost use Rattle.transcript_law.specs.ClientAskRows.{AsksSync, LawfulAsked, LawfulPulled, LawfulStory, LawfulWaits, acking, all_lines, asked, asked_at, asked_by, bytes_of, client_asks, client_counts, client_ends, client_gives, client_hears, client_marks, closes_first, closing, closing_typed, flagged, full_now, goes_as, hangs_up, idle, indexed, moved, naming, none, opening, opens_first, other_marked, past_both, pulls, puts, requesting, requesting_typed, resting, sends_none, serving, sizing, syncing, taking_over, that_asked, that_opened, that_sent, ticks, typed_close_refused, typed_refused, unanswered, unopened, waiting_now, with_window, with_window_waiting, asked_forked, forked, sends_rest};
+ghost use Rattle.transcript_law.specs.ClientAskRows.{AsksSync, LawfulAsked, LawfulPulled, LawfulStory, LawfulUnread, LawfulWaits, acking, all_lines, asked, asked_at, asked_by, bytes_of, client_asks, client_counts, client_ends, client_gives, client_hears, client_marks, closes_first, closing, closing_typed, flagged, full_now, goes_as, hangs_up, idle, indexed, moved, naming, none, opening, opens_first, other_marked, past_both, pulls, puts, requesting, requesting_typed, resting, sends_none, serving, sizing, syncing, taking_over, that_asked, that_opened, that_sent, ticks, typed_close_refused, typed_refused, unanswered, unopened, waiting_now, with_window, with_window_waiting, asked_forked, forked, sends_rest};
 ghost use Rattle.transcript_law.specs.AnsweredRows.{durable_bytes};
 ghost use Rattle.transcript_law.specs.AskedRows.{marks_of, pump_one, up_one};
 ghost use Rattle.transcript_law.specs.BoundRows.{LawfulHere};
@@ -340,6 +340,25 @@ pub fn judged_waiting_pulls()
     ensures none { LawfulWaits 2 two none → ⊥ }
     ensures other_put { LawfulWaits 2 two (both (fresh true all_changes) (inside true all_changes two 0 2 (first_item ∷ next_item ∷ []))) }
     ensures other_left { LawfulWaits 2 two (both (fresh true all_changes) (inside true all_changes two 0 2 (first_item ∷ []))) → ⊥ }
+{}
+
+/// A client's pull ends for a journal where one of its streams goes on from one that is closed, and the
+/// vBucket counts changes above the stream's place as saved: whatever the other streams have. It is not
+/// where the journal is open, where nothing above the place counts as saved, inside a snapshot, where the
+/// stream's own end is due, where its vBucket got a role, where it is over, where no stream is there, nor
+/// where the window is shut.
+pub fn judged_unread_pulls()
+    ensures unread { LawfulUnread true 2 two (with_streams (one (fresh true all_changes))) }
+    ensures opened { LawfulUnread false 2 two (with_streams (one (fresh true all_changes))) → ⊥ }
+    ensures unsaved { LawfulUnread true 0 two (with_streams (one (fresh true all_changes))) → ⊥ }
+    ensures all_put { LawfulUnread true 2 two (with_streams (one (inside true all_changes two 0 2 (first_item ∷ next_item ∷ [])))) → ⊥ }
+    ensures part { LawfulUnread true 3 three (with_streams (one (inside true all_changes three 0 2 (first_item ∷ [])))) → ⊥ }
+    ensures due { LawfulUnread true 3 three (with_streams (one (put_three (up_to 2)))) → ⊥ }
+    ensures turns { LawfulUnread true 3 three (with_streams (one (moved put_two))) → ⊥ }
+    ensures over { LawfulUnread true 2 two (with_streams (one (finished (fresh true all_changes)))) → ⊥ }
+    ensures none { LawfulUnread true 2 two (with_streams none) → ⊥ }
+    ensures shut { LawfulUnread true 2 two (with_window 100 100 [] (one (fresh true all_changes))) → ⊥ }
+    ensures other_left { LawfulUnread true 2 two (with_streams (both (fresh true all_changes) (inside true all_changes two 0 2 (first_item ∷ [])))) }
 {}
 
 /// A frame of a client's stream goes only while its connection's window has less outstanding than its

@@ -11,7 +11,7 @@ ghost use Rattle.transcript_law.specs.Chronicles.{empty_chronicle};
 ghost use Rattle.transcript_law.specs.KindRows.{CountsFrames, CountsNothing, CountsOne, FiresAt, FiresNothing, MeetsJournal};
 ghost use Rattle.vb_disk.specs.declared.made.Outcome.{Outcome as OutcomeData};
 
-/// A line that moves bytes, seals, takes a batch or is done is answered by a number or refused, one that
+/// A line that moves bytes, seals, trims, drops a cursor, takes a batch or is done is answered by a number or refused, one that
 /// has frames put by their count and why no more were put, and any other by no number.
 pub fn judged_kinds()
     ensures made { CountsNothing empty_chronicle (verb.Node 0) }
@@ -39,6 +39,8 @@ pub fn judged_kinds()
     ensures up { (wanted : ℕ) → CountsOne one_dialed (verb.AtLink 1 (link_verb.Up wanted)) }
     ensures down { (wanted : ℕ) → CountsOne one_dialed (verb.AtLink 1 (link_verb.Down wanted)) }
     ensures seal { (v : ℕ) → CountsOne empty_chronicle (verb.AtVb 0 v vb_verb.Seal) }
+    ensures trim { (v : ℕ) → CountsOne empty_chronicle (verb.AtVb 0 v vb_verb.Trim) }
+    ensures drop { CountsOne one_dialed (verb.AtLink 1 link_verb.Drop) }
     ensures take { (v : ℕ) → CountsOne empty_chronicle (verb.AtVb 0 v vb_verb.Take) }
     ensures done { (v : ℕ) → CountsOne empty_chronicle (verb.AtVb 0 v vb_verb.Done) }
     ensures pump { (wanted : ℕ) → CountsFrames one_dialed (verb.AtLink 1 (link_verb.Pump wanted)) }
@@ -71,6 +73,8 @@ pub fn judged_firing_lines()
     ensures pump { (wanted : ℕ) → FiresNothing (verb.AtLink 1 (link_verb.Pump wanted)) }
     ensures cut { FiresNothing (verb.AtLink 1 link_verb.Cut) }
     ensures seal { (v : ℕ) → FiresNothing (verb.AtVb 0 v vb_verb.Seal) }
+    ensures trim { (v : ℕ) → FiresNothing (verb.AtVb 0 v vb_verb.Trim) }
+    ensures drop { FiresNothing (verb.AtLink 1 link_verb.Drop) }
     ensures take { (v : ℕ) → FiresNothing (verb.AtVb 0 v vb_verb.Take) }
     ensures done { (v : ℕ) → FiresNothing (verb.AtVb 0 v vb_verb.Done) }
     ensures tick { (v : ℕ) → FiresNothing (verb.AtVb 0 v vb_verb.Tick) }

@@ -44,6 +44,8 @@ pub fn judged_own_lines()
     ensures chain_role { (others : Members) → MayNotTell (verb.AtVb 0 0 (vb_verb.Chain others)) (turns_at 0 0) }
     ensures tick_role { MayNotTell (verb.AtVb 0 0 vb_verb.Tick) (turns_at 0 0) }
     ensures seal_change { MayNotTell (verb.AtVb 0 0 vb_verb.Seal) changes_here }
+    ensures trim_change { MayNotTell (verb.AtVb 0 0 vb_verb.Trim) changes_here }
+    ensures trim_stat { MayNotTell (verb.AtVb 0 0 vb_verb.Trim) (stat_at 0 0) }
     ensures take_other { MayNotTell (verb.AtVb 0 0 vb_verb.Take) (batch_at 0 1) }
     ensures take_change { MayNotTell (verb.AtVb 0 0 vb_verb.Take) changes_here }
     ensures done_role { MayNotTell (verb.AtVb 0 0 vb_verb.Done) (turns_at 0 0) }
@@ -58,7 +60,7 @@ pub fn judged_own_lines()
 {}
 
 /// So it is of lines for nodes, clients and links: one that makes a node, dials, sets a clock or an arm,
-/// opens a connection or hangs up tells of nothing; a crash of ends alone; a start of its own node; and a
+/// opens a connection, hangs up or drops a cursor tells of nothing; a crash of ends alone; a start of its own node; and a
 /// cut of its own link.
 pub fn judged_other_lines()
     ensures node { MayNotTell (verb.Node 0) (turns_at 0 0) }
@@ -74,6 +76,8 @@ pub fn judged_other_lines()
     ensures opens { MayNotTell (verb.AtClient 0 1 client_verb.Open) replies }
     ensures hang { MayNotTell (verb.AtClient 0 1 client_verb.Hang) replies }
     ensures bytes { (bytes : List ℕ) → MayNotTell (verb.AtClient 0 1 (client_verb.Bytes bytes)) (turns_at 0 0) }
+    ensures drop_end { MayNotTell (verb.AtLink 1 link_verb.Drop) (ends_at 1) }
+    ensures drop_role { MayNotTell (verb.AtLink 1 link_verb.Drop) (turns_at 0 0) }
     ensures cut_other { MayNotTell (verb.AtLink 1 link_verb.Cut) (ends_at 2) }
     ensures cut_role { MayNotTell (verb.AtLink 1 link_verb.Cut) (turns_at 0 0) }
 {}

@@ -1,12 +1,12 @@
 //! Of what no line may leave undone.
 
-ghost use Rattle.std.specs.Prelude.{ℕ, ◌≤◌, [], ◌∷◌};
+ghost use Rattle.std.specs.Prelude.{ℕ, ◌≤◌, true, false, [], ◌∷◌};
 ghost use Rattle.transcript_law.specs.BoundRows.{LawfulHere};
 ghost use Rattle.transcript_law.specs.Chronicles.{after_dial, empty_chronicle};
 ghost use Rattle.vb_types.specs.declared.change.Level.TheVariants as level;
 ghost use Rattle.transcript_law.specs.Contrary.{after_both_dead};
 ghost use Rattle.transcript_law.specs.Followers.{adopted_lines, after_both, both_sent_lines, granted_inside};
-ghost use Rattle.transcript_law.specs.UndoneRows.{DownLeavesNone, LawfulPump, LawfulTake, acknowledged_too, back_at_one, change_got, granted_both, is_shut, lost, next_marker, prepare_got, prepare_held, prepare_marked, prepare_saved, prepare_sent, puts_end, puts_first, puts_half, puts_none, regot, stands_to, takes_none, takes_to};
+ghost use Rattle.transcript_law.specs.UndoneRows.{DownLeavesNone, LawfulPump, LawfulTake, acknowledged_too, back_at_one, both_unread, change_got, end_unread, granted_both, half_unread, is_shut, journal_so, lost, next_marker, prepare_got, prepare_held, prepare_marked, prepare_saved, prepare_sent, puts_end, puts_first, puts_half, puts_none, regot, stands_to, takes_none, takes_to, unread_now};
 ghost use Rattle.script_text.specs.declared.verb.Verb.TheVariants as verb;
 ghost use Rattle.script_text.specs.declared.verb.VbVerb.TheVariants as vb_verb;
 ghost use Rattle.vb_events.specs.declared.event.Answer.TheVariants as answer;
@@ -54,6 +54,21 @@ pub fn judged_idle_pumps()
     ensures no_stream { LawfulPump (after_dial empty_chronicle 1 0 1 0 answer.Ok) puts_none }
     ensures short { LawfulPump (granted_inside 3) puts_none }
     ensures reached { LawfulPump (granted_inside 2) puts_none → ⊥ }
+{}
+
+/// A pump ends for a journal where that is closed, and the vBucket counts changes above the stream's place
+/// as saved: at once, and behind both changes where a third counts. It is not where the journal is open,
+/// where nothing above the place counts as saved, inside a snapshot, behind the stream's end, nor of a
+/// link that has no stream.
+pub fn judged_unread_pumps()
+    ensures unread { LawfulPump (journal_so true 2 granted_both) unread_now }
+    ensures behind { LawfulPump (journal_so true 3 granted_both) both_unread }
+    ensures opened { LawfulPump (journal_so false 2 granted_both) unread_now → ⊥ }
+    ensures unsaved { LawfulPump (journal_so true 0 granted_both) unread_now → ⊥ }
+    ensures put { LawfulPump (journal_so true 2 granted_both) both_unread → ⊥ }
+    ensures half_put { LawfulPump (journal_so true 3 granted_both) half_unread → ⊥ }
+    ensures ended { LawfulPump (journal_so true 3 (after_both_dead after_both)) end_unread → ⊥ }
+    ensures no_stream { LawfulPump (journal_so true 2 (after_dial empty_chronicle 1 0 1 0 answer.Ok)) unread_now → ⊥ }
 {}
 
 /// A replica that takes a prepare acknowledges it behind that, all up to it. None is due inside the

@@ -13,6 +13,8 @@ use Rattle.transcript_law.proofs.verbs.Rows.{Row}
 use Rattle.transcript_law.specs.{Chronicles.{after_group, at_line}, LawfulAnswers.{IsStill}, LinesTold.{LastLine, number_of, risen_through, risen_to}, Prefixes.{known_after, world_after}, Waits.{NoneWaitsInVain}}
 use Rattle.vb_types.specs.declared.journal.FlushPart.{FlushPart}
 use Rattle.vb_types.specs.declared.journal.FlushPart.TheVariants as part
+use Rattle.node_world.specs.Links.{drop_at}
+use Rattle.transcript_law.proofs.links.DropRows.{drop_stays}
 
 -- ---- one line
 
@@ -52,6 +54,7 @@ module _ (w : PlainWorld) (r : Chronicle) (k : Known w r) (last : LastLine) (ris
   vb_none n v VbVerb.Follow = armed_none n w (turn_step w n v Role.Replica AdminCall.Follow) (turn_none n v AdminCall.Follow (first_cause (turn_causes w n v Role.Replica)) refl)
   vb_none n v VbVerb.Dead = armed_none n w (turn_step w n v Role.Dead AdminCall.Dead) (turn_none n v AdminCall.Dead (first_cause (turn_causes w n v Role.Dead)) refl)
   vb_none n v VbVerb.Tick = on_node_none w n (tick_line n v) none (λ node e here. tick_waits n v node (well n node e here))
+  vb_none n v VbVerb.Trim = admin_none n v AdminCall.Trim (tt, λ reply any. tt)
   vb_none n v VbVerb.Seal = admin_none n v AdminCall.Seal (tt, λ reply any. tt)
   vb_none n v VbVerb.Take = flush_none n v part.Take
   vb_none n v VbVerb.Save = armed_none n w (on_node w n (save_line n v)) (on_node_none w n (save_line n v) none (λ node e here. save_waits n v node (well n node e here)))
@@ -78,6 +81,7 @@ module _ (w : PlainWorld) (r : Chronicle) (k : Known w r) (last : LastLine) (ris
       by None = came
       by (Some link) = broken_none (consumer_node link) l w (on_link w l consumer_node (down_in wanted)) came
   link_none l (LinkVerb.Pump frames) = pump_none w none k.ranged (still_world w r k.agrees k.rest) (λ n node e. well n node e (here_of n node e)) l frames
+  link_none l LinkVerb.Drop = on_link_none w l producer_node drop_at none (λ link node found e here. none_on (Some node) (Some (drop_at link node).0) (drop_stays link node) here)
   link_none l LinkVerb.Cut = elim (row_at link_number l w.links) as (λ o. NoneWaits (cut_outcome w o).0) [ None ↦ none | Some link ↦ none_after w (unlinked link w) (unlinked_stays w link) none ]
 
   line_none : (number : ℕ) (what : Verb) → NoneWaits (verb_step w number what).0

@@ -7,6 +7,7 @@ use Rattle.node_world.specs.{Power.{crash_causes, down_lines, dropped, start_at,
 use Rattle.vb_types.specs.declared.journal.FlushPart.TheVariants as part
 use Rattle.transcript_law.proofs.balance.{Leaving.{among_on, arm_on, dropped_among, made_links, out_among, refused_on, role_on, same_on}, Levels.{FlowOn}}
 use Rattle.transcript_law.proofs.noted.Groups.{is_still}
+use Rattle.transcript_law.proofs.links.DropRows.{drop_links}
 
 -- one that may acknowledge more for a link
 abbrev pub is_done : Verb → Bool
@@ -37,6 +38,7 @@ module _ (w : PlainWorld) where
   vb_flows n v VbVerb.Dead none =
       arm_on n w (turn_step w n v Role.Dead AdminCall.Dead) (refused_on w (first_cause (turn_causes w n v Role.Dead)) (role_outcome n v AdminCall.Dead w) (role_on n v AdminCall.Dead w))
   vb_flows n v VbVerb.Tick none = on_one n (if_up (tick_line n v))
+  vb_flows n v VbVerb.Trim none = on_one n (if_up (admin_line n v AdminCall.Trim))
   vb_flows n v VbVerb.Seal none = on_one n (if_up (admin_line n v AdminCall.Seal))
   vb_flows n v VbVerb.Take none = on_one n (if_up (flush_line n v part.Take))
   vb_flows n v VbVerb.Save none = arm_on n w (on_node w n (save_line n v)) (on_one n (if_up (save_line n v)))
@@ -55,6 +57,7 @@ module _ (w : PlainWorld) where
   still_flows number (Verb.AtLink l (LinkVerb.Up wanted)) still none = cc
   still_flows number (Verb.AtLink l (LinkVerb.Down wanted)) still none = cc
   still_flows number (Verb.AtLink l (LinkVerb.Pump frames)) still none = cc
+  still_flows number (Verb.AtLink l LinkVerb.Drop) still none = same_on w.links (verb_step w number (Verb.AtLink l LinkVerb.Drop)).0.links (drop_links w l)
   still_flows number (Verb.AtLink l LinkVerb.Cut) still none = by (row_at link_number l w.links)
     where
       by : (o : Option PlainLink) → FlowOn w.links (cut_outcome w o).0.links

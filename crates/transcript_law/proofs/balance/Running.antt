@@ -11,6 +11,7 @@ use Rattle.transcript_law.proofs.{Runs.{Along, along, along_start}, invariant.Ag
 use Rattle.transcript_law.proofs.balance.{Downing.{Writing, down_level, due_level, told, writing_of}, Giving.{gives_on}, Hearing.{dued}, Leaving.{among_on, arm_on, dropped_among, found_among, made_links, node_links, out_among, put_among, refused_on, role_on, same_on, with_broken_among}, Levels.{AllLevel, FlowOn, Level, level_on}, Measures.{acknowledged_is, counted_is}, Opening.{link_level}, Pumping.{pump_holds}, Upping.{up_holds}}
 use Rattle.transcript_law.proofs.{links.PumpWorlds.{AllKnown, LinkKnown}, noted.Pumped.{pump_known}}
 use Rattle.transcript_law.specs.LawfulAnswers.{IsStill}
+use Rattle.transcript_law.proofs.links.DropRows.{drop_links}
 
 -- the consumers of links have opaques
 abbrev SmallAfter : List PlainLink → Type 0
@@ -171,6 +172,7 @@ module _ (w : PlainWorld) (r : Chronicle) (ranged : IsRanged w) (calm : IsStill 
   vb_goes n v VbVerb.Dead = flows (vb_verb_step w n v VbVerb.Dead)
       (arm_on n w (turn_step w n v Role.Dead AdminCall.Dead) (refused_on w (first_cause (turn_causes w n v Role.Dead)) (role_outcome n v AdminCall.Dead w) (role_on n v AdminCall.Dead w)))
   vb_goes n v VbVerb.Tick = flows (vb_verb_step w n v VbVerb.Tick) (on_one n (if_up (tick_line n v)))
+  vb_goes n v VbVerb.Trim = flows (vb_verb_step w n v VbVerb.Trim) (on_one n (if_up (admin_line n v AdminCall.Trim)))
   vb_goes n v VbVerb.Seal = flows (vb_verb_step w n v VbVerb.Seal) (on_one n (if_up (admin_line n v AdminCall.Seal)))
   vb_goes n v VbVerb.Take = flows (vb_verb_step w n v VbVerb.Take) (on_one n (if_up (flush_line n v part.Take)))
   vb_goes n v VbVerb.Save = flows (vb_verb_step w n v VbVerb.Save) (arm_on n w (on_node w n (save_line n v)) (on_one n (if_up (save_line n v))))
@@ -184,6 +186,7 @@ module _ (w : PlainWorld) (r : Chronicle) (ranged : IsRanged w) (calm : IsStill 
   link_goes l (LinkVerb.Up wanted) small = up_level l wanted
   link_goes l (LinkVerb.Down wanted) small = λ x i. down_goes l wanted x i (small x i)
   link_goes l (LinkVerb.Pump frames) small = pump_level l frames
+  link_goes l LinkVerb.Drop small = flows (link_verb_step w l LinkVerb.Drop) (same_on w.links (link_verb_step w l LinkVerb.Drop).0.links (drop_links w l))
   link_goes l LinkVerb.Cut small = cut_goes l
 
   line_goes : (line : ℕ) (what : Verb) → VerbFits what → SmallAfter (verb_step w line what).0.links → Goes (verb_step w line what)

@@ -12,6 +12,7 @@ use Rattle.transcript_law.proofs.verbs.{BoundAnswers.{start_refused}, FiredLines
 use Rattle.transcript_law.specs.{Bound.{IsNoOf}, Chronicles.{Dial, after_group, ahead, at_line}, Ends.{AllEnded, Dials, NoneAt, NoneLeft, NoneTurned}, Firings.{FiresAsSaid, FiresInLine}, LinesTold.{is_dial_at}}
 use Rattle.vb_disk.specs.declared.made.Outcome.{Outcome as Left}
 use Rattle.vb_types.specs.declared.journal.FlushPart.TheVariants as part
+use Rattle.node_world.specs.Links.{drop_at}
 
 -- one that is refused for a node that runs, or is not there, stops none
 never_stopped : (said : Answer) → IsNoOf (Cause.NodeUp ∷ Cause.UnknownNode ∷ []) said → said ≡ Answer.No Cause.Stopped → ⊥
@@ -146,6 +147,7 @@ module _ (w : PlainWorld) (r : Chronicle) (ranged : IsRanged w) (a : Agrees w r)
   vb_all n v VbVerb.Done fires = calm_all (Verb.AtVb n v VbVerb.Done) (done_step w n v) (λ said. tt) (due_kept n v (on_node w n (flush_line n v part.Done)) (node_same n (flush_line n v part.Done))) fires
   vb_all n v (VbVerb.Chain others) fires = calm_all (Verb.AtVb n v (VbVerb.Chain others)) (vb_verb_step w n v (VbVerb.Chain others)) (λ said. tt) (node_same n (chain_line n v others)) fires
   vb_all n v VbVerb.Tick fires = calm_all (Verb.AtVb n v VbVerb.Tick) (vb_verb_step w n v VbVerb.Tick) (λ said. tt) (node_same n (tick_line n v)) fires
+  vb_all n v VbVerb.Trim fires = calm_all (Verb.AtVb n v VbVerb.Trim) (vb_verb_step w n v VbVerb.Trim) (λ said. tt) (node_same n (admin_line n v AdminCall.Trim)) fires
   vb_all n v VbVerb.Seal fires = calm_all (Verb.AtVb n v VbVerb.Seal) (vb_verb_step w n v VbVerb.Seal) (λ said. tt) (node_same n (admin_line n v AdminCall.Seal)) fires
   vb_all n v VbVerb.Take fires = calm_all (Verb.AtVb n v VbVerb.Take) (vb_verb_step w n v VbVerb.Take) (λ said. tt) (node_same n (flush_line n v part.Take)) fires
   vb_all n v VbVerb.Stat fires = calm_all (Verb.AtVb n v VbVerb.Stat) (vb_verb_step w n v VbVerb.Stat) (λ said. tt) (node_same n (admin_line n v AdminCall.Stat)) fires
@@ -157,6 +159,7 @@ module _ (w : PlainWorld) (r : Chronicle) (ranged : IsRanged w) (a : Agrees w r)
       (puts_kept w l producer_node (up_at wanted) (λ link node. (with_up link (moved_len wanted link.up) (peer_given (take (moved_len wanted link.up) link.up) (peer_of link) node).1, refl, refl))) fires
   link_all l (LinkVerb.Pump frames) fires = calm_all (Verb.AtLink l (LinkVerb.Pump frames)) (link_verb_step w l (LinkVerb.Pump frames)) (λ said. tt) (pump_kept w l frames) fires
   link_all l (LinkVerb.Down wanted) fires = armed_all (Verb.AtLink l (LinkVerb.Down wanted)) (link_verb_step w l (LinkVerb.Down wanted)) (λ said. tt) (down_line_ends w r a linked l wanted)
+  link_all l LinkVerb.Drop fires = calm_all (Verb.AtLink l LinkVerb.Drop) (link_verb_step w l LinkVerb.Drop) (λ said. tt) (puts_kept w l producer_node drop_at (λ link node. (link, refl, refl))) fires
   link_all l LinkVerb.Cut fires = cut_all l
 
   -- each line of a script

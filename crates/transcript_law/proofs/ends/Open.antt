@@ -4,14 +4,14 @@ use Rattle.transcript_law.proofs.Words.{ℕ, Bool, true, false, List, [], refl, 
 use Rattle.transcript_law.proofs.Words.{after_job, ask_in, consumer_node, cut_outcome, dial_of, done, feeds, first_cause, is_taken, link_number, link_step, moved_len, node_outcome, on_link, producer_node, refusal, refused_or, row_at, up_at, vb_in, with_dialed, with_link, with_links}
 use Rattle.dcp_consumer.specs.Machine.{over_why}
 use Rattle.node_core.specs.Dials.{dial_bytes, is_broken}
-use Rattle.node_world.specs.{Arms.{fired_by, placed}, Power.{after_broken, is_broken_answer, with_broken}, World.{cut_step, down_in, down_outcome, down_step, link_outcome, pump_outcome, pump_step}, Worlds.{arm_in, is_off}}
+use Rattle.node_world.specs.{Arms.{fired_by, placed}, Links.{drop_at}, Power.{after_broken, is_broken_answer, with_broken}, World.{cut_step, down_in, down_outcome, down_step, link_outcome, pump_outcome, pump_step}, Worlds.{arm_in, is_off}}
 use Rattle.node_world.specs.declared.arm.Fired.{Fired}
 use Rattle.node_world.specs.declared.arm.Fired.TheVariants as fired
 use Rattle.transcript_law.proofs.ends.Links.{AllLinked, found}
-use Rattle.transcript_law.proofs.{disks.Disks.{power_in}, invariant.{Agreement.{Agrees, IsLink, is_running}, LinkRows.{found_is_link}}, invariant.Ranged.{IsRanged}, links.PumpAnswers.{moved_few}}
+use Rattle.transcript_law.proofs.{disks.Disks.{power_in}, invariant.{Agreement.{Agrees, IsLink, is_running}, LinkRows.{found_is_link}}, invariant.Ranged.{IsRanged}, links.{Dropped.{dropped_says}, PumpAnswers.{moved_few}}}
 use Rattle.transcript_law.proofs.ends.Pumps.{pump_told}
 use Rattle.transcript_law.proofs.verbs.{Dials.{free_links}, StopTellings.{dial_told, world_dialed}}
-use Rattle.transcript_law.specs.{LineAnswers.{IsCut, IsLinked, IsMoved, IsOverIfNo, IsPumped}, LinesTold.{Dial, is_dial_for}}
+use Rattle.transcript_law.specs.{LineAnswers.{IsCut, IsDropped, IsLinked, IsMoved, IsOverIfNo, IsPumped}, LinesTold.{Dial, is_dial_for}}
 
 module _ (w : PlainWorld) (r : Chronicle) (a : Agrees w r) (linked : AllLinked w r.dial_of) where
   -- one of which there is none is not dialed
@@ -45,6 +45,19 @@ module _ (w : PlainWorld) (r : Chronicle) (a : Agrees w r) (linked : AllLinked w
 
   pub up_answered : (l wanted : ℕ) → IsMoved (r.dial_of l) wanted (on_link w l producer_node (up_at wanted)).1.answer
   up_answered l wanted = reached (λ told. IsMoved (r.dial_of l) wanted told.answer) l producer_node (up_at wanted) (λ none. none) producer_made (λ link node. moved_few wanted link.up)
+
+  pub drop_answered : (l : ℕ) → IsDropped r l (on_link w l producer_node drop_at).1.answer
+  drop_answered l = by (row_at link_number l w.links) refl
+    where
+      at : (link : PlainLink) → row_at link_number l w.links ≡ Some link → (o : Option PlainNode) → w.nodes (producer_node link) ≡ o → IsDropped r l (with_link link (node_outcome w (producer_node link) (Some link, refusal Cause.UnknownNode) o (drop_at link))).1.answer
+      at link e None none = absurd (producer_made link (found_is_link l w.links link e).0 none)
+      at link e (Some node) known =
+          let same : link_number link ≡ l = (found_is_link l w.links link e).1 in
+          subst (λ k. IsDropped r k (drop_at link node).1.1.answer) same (dropped_says w r link node a.0 a.1 (subst (λ k. row_at link_number k w.links ≡ Some link) (sym same) e))
+
+      by : (o : Option PlainLink) → row_at link_number l w.links ≡ o → IsDropped r l (link_outcome w l producer_node drop_at o).1.answer
+      by None e = undialed l e
+      by (Some link) e = at link e (w.nodes (producer_node link)) refl
 
   pub pump_answered : IsRanged w → (l frames : ℕ) → (let told = (pump_step w l frames).1 in IsPumped (r.dial_of l) frames told.events told.answer)
   pump_answered ranged l frames = by (row_at link_number l w.links) refl

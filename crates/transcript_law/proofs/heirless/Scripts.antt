@@ -48,6 +48,7 @@ module _ (u : ℕ) where
   adopts_rest w r number (Verb.AtLink l (LinkVerb.Down wanted)) a linked = adopts w r l wanted a linked
   adopts_rest w r number (Verb.AtLink l (LinkVerb.Up wanted)) a linked = tt
   adopts_rest w r number (Verb.AtLink l (LinkVerb.Pump wanted)) a linked = tt
+  adopts_rest w r number (Verb.AtLink l LinkVerb.Drop) a linked = tt
   adopts_rest w r number (Verb.AtLink l LinkVerb.Cut) a linked = tt
   adopts_rest w r number (Verb.Node n) a linked = tt
   adopts_rest w r number (Verb.Link l m n v buffer takeover) a linked = tt

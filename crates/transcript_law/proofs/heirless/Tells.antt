@@ -130,6 +130,7 @@ never_adopts r (verb.AtVb n v (vb_verb.Promote uuid)) m q log e = refl
 never_adopts r (verb.AtVb n v vb_verb.Follow) m q log e = refl
 never_adopts r (verb.AtVb n v vb_verb.Dead) m q log e = refl
 never_adopts r (verb.AtVb n v vb_verb.Tick) m q log e = refl
+never_adopts r (verb.AtVb n v vb_verb.Trim) m q log e = refl
 never_adopts r (verb.AtVb n v vb_verb.Seal) m q log e = refl
 never_adopts r (verb.AtVb n v vb_verb.Take) m q log e = refl
 never_adopts r (verb.AtVb n v vb_verb.Save) m q log e = refl
@@ -150,6 +151,11 @@ never_adopts r (verb.AtLink l (link_verb.Up wanted)) m q log e = at (r.dial_of l
 never_adopts r (verb.AtLink l (link_verb.Pump wanted)) m q log e = at (r.dial_of l)
   where
     at : (d : Option Dial) → at_link d l (link_verb.Pump wanted) (Event.Adopted m q log) ≡ false
+    at None = refl
+    at (Some d) = refl
+never_adopts r (verb.AtLink l link_verb.Drop) m q log e = at (r.dial_of l)
+  where
+    at : (d : Option Dial) → at_link d l link_verb.Drop (Event.Adopted m q log) ≡ false
     at None = refl
     at (Some d) = refl
 never_adopts r (verb.AtLink l link_verb.Cut) m q log e = at (r.dial_of l)
@@ -227,6 +233,7 @@ moved_fits u r l (link_verb.Up wanted) lines rests (Some d) e m = absurd m
 moved_fits u r l (link_verb.Down wanted) lines rests (Some d) e m =
     let x = ⊎_elim (about_to u r l d lines) (takes_over u r l d lines) m in (x.0, if_taken r lines (r.role_at d.node d.vb ≡ Some (Some Role.Active) → ⊥) (λ taken. rests d e taken) x.1)
 moved_fits u r l (link_verb.Pump frames) lines rests (Some d) e m = gives_up u r l d lines m
+moved_fits u r l link_verb.Drop lines rests (Some d) e m = absurd m
 moved_fits u r l link_verb.Cut lines rests (Some d) e m = absurd m
 
 -- a `down` by which none is handed over

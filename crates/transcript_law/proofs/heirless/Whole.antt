@@ -32,6 +32,7 @@ obeyed_turned dial (verb.AtLink k (link_verb.Pump wanted)) lines said l t = inl 
 obeyed_turned dial (verb.AtLink k (link_verb.Down wanted)) lines said l t = inl (if_turned (k == l && turns_consumer dial lines) _ t refl)
 obeyed_turned dial (verb.AtLink k (link_verb.Up wanted)) lines (answer.Number n) l t = inl (if_turned (k == l) _ t refl)
 obeyed_turned dial (verb.AtLink k (link_verb.Up wanted)) lines other l t = inl refl
+obeyed_turned dial (verb.AtLink k link_verb.Drop) lines said l t = inl refl
 obeyed_turned dial (verb.AtLink k link_verb.Cut) lines said l t = inl refl
 obeyed_turned dial (verb.Link k m n v buffer takeover) lines answer.Ok l t = by (k == l) refl
   where

@@ -108,6 +108,7 @@ module _ (takes : TakesSnapshots) (exactly : TakesExactly) (w : PlainWorld) (r :
     pub rest : why_of halted ≡ Why.WaitSaved → (u : PlainStream) → Among u s.end.streams → RestsNow w r cl n c node session (after_lines r so.lines) u
     pub one : why_of halted ≡ Why.WaitSaved → WaitsNow w r cl n c node session (after_lines r so.lines) s.end.streams
     pub unstated : why_of halted ≡ Why.WaitState → ⊥
+    pub unread : why_of halted ≡ Why.Disk → ⊥
     pub full : why_of halted ≡ Why.Full → lets_through s.end.window ≡ false
     pub opens : (why_of halted ≡ Why.Idle) ⊎ (why_of halted ≡ Why.WaitSaved) → lets_through s.end.window ≡ true
 
@@ -129,13 +130,13 @@ module _ (takes : TakesSnapshots) (exactly : TakesExactly) (w : PlainWorld) (r :
       by true f = refl
       by false f = cc
 
-  -- nor is it full then, or is a state's answer waited for
-  neither : (q : QuietOnes) (saves : Bool) (why : Why) → q.waits ≡ wait_of saves → why_of (quiet_halt q) ≡ why → (why ≡ Why.Full → ⊥) × (why ≡ Why.WaitState → ⊥)
+  -- nor is it full then, or is a state's answer waited for, or is it for a journal
+  neither : (q : QuietOnes) (saves : Bool) (why : Why) → q.waits ≡ wait_of saves → why_of (quiet_halt q) ≡ why → (why ≡ Why.Full → ⊥) × (why ≡ Why.WaitState → ⊥) × (why ≡ Why.Disk → ⊥)
   neither q saves why is e = by saves (sym (ap (λ x. why_of (halt_of x)) is) ∙ e)
     where
-      by : (b : Bool) → why_of (halt_of (wait_of b)) ≡ why → (why ≡ Why.Full → ⊥) × (why ≡ Why.WaitState → ⊥)
-      by true f = (λ g. let z : Why.WaitSaved ≡ Why.Full = f ∙ g in cc, λ g. let z : Why.WaitSaved ≡ Why.WaitState = f ∙ g in cc)
-      by false f = (λ g. let z : Why.Idle ≡ Why.Full = f ∙ g in cc, λ g. let z : Why.Idle ≡ Why.WaitState = f ∙ g in cc)
+      by : (b : Bool) → why_of (halt_of (wait_of b)) ≡ why → (why ≡ Why.Full → ⊥) × (why ≡ Why.WaitState → ⊥) × (why ≡ Why.Disk → ⊥)
+      by true f = (λ g. let z : Why.WaitSaved ≡ Why.Full = f ∙ g in cc, λ g. let z : Why.WaitSaved ≡ Why.WaitState = f ∙ g in cc, λ g. let z : Why.WaitSaved ≡ Why.Disk = f ∙ g in cc)
+      by false f = (λ g. let z : Why.Idle ≡ Why.Full = f ∙ g in cc, λ g. let z : Why.Idle ≡ Why.WaitState = f ∙ g in cc, λ g. let z : Why.Idle ≡ Why.Disk = f ∙ g in cc)
 
   -- every stream had its turn
   all_turned : (p0 : Pulling) (states : States) (p : Pulling) → lets_through p0.served.end.window ≡ true → Rounded p0 (length p0.served.end.streams) states p → Stopped states p.served (quiet_halt p.quiet)
@@ -145,6 +146,7 @@ module _ (takes : TakesSnapshots) (exactly : TakesExactly) (w : PlainWorld) (r :
     rest = λ e u i. g.pulled.rest u i (asked u i);
     one = λ e. (g.pulled.one (waits_so p.quiet g.pulled.saves g.pulled.waits_is e)).0;
     unstated = λ e. (neither p.quiet g.pulled.saves (why_of (quiet_halt p.quiet)) g.pulled.waits_is refl).1 e;
+    unread = λ e. (neither p.quiet g.pulled.saves (why_of (quiet_halt p.quiet)) g.pulled.waits_is refl).2 e;
     full = λ e. absurd ((neither p.quiet g.pulled.saves (why_of (quiet_halt p.quiet)) g.pulled.waits_is refl).0 e);
     opens = λ e. ap lets_through g.window ∙ through;
   }
@@ -168,7 +170,7 @@ module _ (takes : TakesSnapshots) (exactly : TakesExactly) (w : PlainWorld) (r :
       by : (b : Bool) → lets_through p.served.end.window ≡ b → Frames (after (if b then bind (repeated (length p.served.end.streams) one_turn p) (λ turns. Done (turns_came turns)) else Done (Stop (p.served, Halt.Full))) states)
       by true through = subst Frames (sym (after_bind (repeated (length p.served.end.streams) one_turn p) (λ turns. Done (turns_came turns)) states))
           (came through (after (repeated (length p.served.end.streams) one_turn p) states).0 (after (repeated (length p.served.end.streams) one_turn p) states).1 (turns_go (length p.served.end.streams) p states (omega arith) through g))
-      by false shut = record { so = g.so; idle = λ e. cc; rest = λ e. cc; one = λ e. cc; unstated = λ e. cc; full = λ e. shut; opens = λ e. ⊎_elim (λ i. cc) (λ w. cc) e }
+      by false shut = record { so = g.so; idle = λ e. cc; rest = λ e. cc; one = λ e. cc; unstated = λ e. cc; unread = λ e. cc; full = λ e. shut; opens = λ e. ⊎_elim (λ i. cc) (λ w. cc) e }
 
   frames_go : (k : ℕ) (p : Pulling) (states : States) → Goes states p → Frames (after (repeated k one_frame p) states)
   frames_go zero p states g = g
@@ -193,5 +195,5 @@ module _ (takes : TakesSnapshots) (exactly : TakesExactly) (w : PlainWorld) (r :
       (by (after (repeated k one_frame p) states).0 (after (repeated k one_frame p) states).1 (frames_go k p states (record { so = g; saves = false; waits_is = refl; still = λ none u i quiet. let z : true ≡ false = sym quiet in cc; rest = λ u i quiet. let z : true ≡ false = sym quiet in cc; one = λ waits. cc })))
     where
       by : (states' : States) (x : Turn Pulling (Served × Halt)) → Frames (states', x) → Ends (after (pulled x) states')
-      by states' (More p) d = record { so = d.so; idle = λ e. cc; rest = λ e. cc; one = λ e. cc; unstated = λ e. cc; full = λ e. cc; opens = λ e. ⊎_elim (λ i. cc) (λ w. cc) e }
+      by states' (More p) d = record { so = d.so; idle = λ e. cc; rest = λ e. cc; one = λ e. cc; unstated = λ e. cc; unread = λ e. cc; full = λ e. cc; opens = λ e. ⊎_elim (λ i. cc) (λ w. cc) e }
       by states' (Stop stopped) d = d

@@ -2,11 +2,14 @@
 use Rattle.std.specs.Prelude.{◌≡◌, ◌<◌, ◌≤◌, ◌&&◌, nat_le, if◌then◌else◌}
 use Rattle.transcript_law.proofs.Words.{is_some, ℕ, Bool, true, false, not, StandsAs, List, [], length, map, refl, ap, sym, ◌∙◌, subst, arith, nat_tests, append-nil, inl, inr, Option, Some, None, All, Begun, Change, Chronicle, Cluster, Covers, IsIn, IsOf, IsWholeIf, Plain, PlainStream, PlainWorld, Snapshot, item_of_change}
 use Rattle.branch_model.proofs.Lists.{in_right}
+use Rattle.dcp_producer.specs.Firsts.{as_sent, items_sent, start_sent}
 use Rattle.dcp_producer.specs.Frames.{reaches_end, with_snapshot}
+use Rattle.dcp_producer.specs.declared.first.First.{First}
 use Rattle.std.proofs.lemmas.List.{take_all}
-use Rattle.transcript_law.proofs.indexers.{Sending.{first_need, first_start, later_start, sent_so}, Snapped.{agrees, between, covers_told}, Views.{covers_lower, none_fewer}}
+use Rattle.transcript_law.proofs.indexers.{Sending.{first_need, sent_so}, Snapped.{agrees, between, covers_told}, Views.{covers_lower, none_fewer}}
 use Rattle.transcript_law.proofs.invariant.Agreement.{AgreesIn, ChangeFits, idle, vb_of}
 use Rattle.transcript_law.proofs.invariant.ClientsTold.{BegunIs, IsOpenFor, PlaceIs, StartedAt, StreamIs}
+use Rattle.transcript_law.proofs.invariant.FirstMarks.{covers_sent}
 use Rattle.transcript_law.proofs.links.{Marking.{moved_here, moved_stream, moved_vb}, Sent.{all_by_each, fits_of}}
 use Rattle.transcript_law.specs.ClientStreams.{stream_view, with_mark}
 use Rattle.transcript_law.specs.LawfulClients.{GoesOnAt, IsNextMarker, IsSentOf, NoneWithin, ReachesFor, ReachesMeant, ReachedBy, StartsAt, writes_out}
@@ -29,7 +32,7 @@ goes_on_at : (b : Bool) (h : List Change) (place at start end : ℕ) → PlaceIs
 goes_on_at true h place at start end is e up = e ∙ is
 goes_on_at false h place at start end is e up = (omega (arith, e, is.0), omega (arith, e, up), none_fewer h place place at start (omega arith) (omega (arith, e)) is.1)
 
-reaches_for : (b : Bool) (h : List Change) (meant end stop : ℕ) → (b ≡ true → end ≡ stop) → meant ≤ stop → NoneWithin h end stop → ReachesFor b h meant end
+pub reaches_for : (b : Bool) (h : List Change) (meant end stop : ℕ) → (b ≡ true → end ≡ stop) → meant ≤ stop → NoneWithin h end stop → ReachesFor b h meant end
 reaches_for true h meant end stop same up none = let e = same refl in omega (arith, e, up)
 reaches_for false h meant end stop same up none = none_fewer h end end stop meant (omega arith) up none
 
@@ -62,11 +65,18 @@ reaches_so g held (Some s) stream until begun e =
 
 module _ (w : PlainWorld) (r : Chronicle) (cl : Cluster) (a : AgreesIn idle w r cl) (n v : ℕ) (g : ClientStream) (stream : PlainStream) (si : StreamIs r.tree (r.branch_at n v) (r.held n v) (vb_of w n v) g stream)
     (x : IsOpenFor r.tree (r.branch_at n v) g stream.id (vb_of w n v)) (stop : ℕ) (snapshot : Snapshot) (is : IsSnapshot x.vb x.stream stop snapshot) (near : x.vb.floor ≤ x.stream.place) where
-  open snapshot use {end, items}
+  open snapshot use {end}
   open x use {stream as o}
 
   abbrev h : List Change
   h = stream_view r.tree g
+
+  -- as it is sent
+  abbrev start : ℕ
+  start = start_sent stream.marked stream.first snapshot.start
+
+  abbrev items : List Change
+  items = items_sent stream.marked stream.first snapshot.items
 
   placed : (g.place ≤ o.place) × NoneWithin h g.place o.place
   placed = place_none g.sync h g.place o.place x.place
@@ -81,25 +91,25 @@ module _ (w : PlainWorld) (r : Chronicle) (cl : Cluster) (a : AgreesIn idle w r 
   none_left = between w r cl a n v g stream.id x stop snapshot is near
 
   covers : Covers items h g.place end
-  covers = covers_lower items h g.place o.place end placed.0 placed.1 (covers_told w r cl a n v g stream.id x stop snapshot is near)
+  covers = covers_lower items h g.place o.place end placed.0 placed.1 (covers_sent stream.marked stream.first snapshot.items h o.place end (covers_told w r cl a n v g stream.id x stop snapshot is near))
 
   -- ---- the marker
 
-  starts : (last : Option Begun) → g.last ≡ last → StartsAt last r.tree g snapshot.start end
-  starts None e = is.starts ∙ first_start g o x.ask x.sync x.taken si.started e
-  starts (Some b) e = goes_on_at g.sync h g.place o.place snapshot.start end x.place (is.starts ∙ later_start g o x.ask x.sync x.taken si.started b e) behind_place
+  starts : (last : Option Begun) → BegunIs g (r.held n v) last stream → StartsAt last r.tree g start end
+  starts None begun = ap (λ m. start_sent m stream.first snapshot.start) begun.1 ∙ ap (λ (f : First). f.start) si.first
+  starts (Some b) begun = goes_on_at g.sync h g.place o.place start end x.place (ap (λ m. start_sent m stream.first snapshot.start) begun.2 ∙ is.starts) behind_place
 
   reaches : (last : Option Begun) → g.last ≡ last → ReachesMeant last r.tree g end
-  reaches None e = reaches_for g.sync h (meant_end g.ask) end stop full (let need = first_need g o x.ask x.sync x.taken si.started e in let up = is.reaches in omega (arith, need, up)) none_left
+  reaches None e = reaches_for g.sync h (meant_end g.ask) end stop full (let need = first_need g o x.ask x.taken e in let up = is.reaches in omega (arith, need, up)) none_left
   reaches (Some b) e = tt
 
-  pub marker_lawful : stream.ended ≡ false → length stream.items ≤ stream.next → reaches_end stream.until stream.marked ≡ false → IsNextMarker r.tree g snapshot.start end
+  pub marker_lawful : stream.ended ≡ false → length stream.items ≤ stream.next → reaches_end stream.until stream.marked ≡ false → IsNextMarker r.tree g start end
   marker_lawful going whole unreached = record {
     opens = si.over;
     stays = sym si.ended ∙ going;
     goes_on = λ reached. let z : false ≡ true = reached_is g (r.held n v) g.last stream si.until si.begun false unreached reached in cc;
     behind = whole_put g (r.held n v) g.last stream si.begun whole;
-    starts = starts g.last refl;
+    starts = starts g.last si.begun;
     reaches = reaches g.last refl;
     whole = (items, covers);
   }
@@ -110,11 +120,13 @@ module _ (w : PlainWorld) (r : Chronicle) (cl : Cluster) (a : AgreesIn idle w r 
   begun = record { history = h; from = g.place; end = end; disk = false; items = [] }
 
   sent : (y : Change) → IsIn y items → IsSentOf g begun (r.held n v) y
-  sent y i =
-      let (c, there, f) = is.sent y i in
-      let vb = agrees w r cl a n v g stream.id x in
-      let held : IsIn c (r.held n v) = subst (IsIn c) (sym (vb.held ∙ vb.parts)) (in_right c vb.below x.vb.held there) in
-      (c, held, sent_so g o x.ask x.sync x.taken si.started begun refl refl c y (subst (λ k. IsSentFor o k c y) is.starts f))
+  sent = sent_so g stream o x.sync si.first si.started begun refl refl snapshot.items (r.held n v) given stream.marked (begun_marked g (r.held n v) g.last stream si.begun)
+    where
+      given : (y : Change) → IsIn y snapshot.items → (c : Change) × IsIn c (r.held n v) × IsSentFor o c y
+      given y i =
+          let (c, there, f) = is.sent y i in
+          let vb = agrees w r cl a n v g stream.id x in
+          (c, subst (IsIn c) (sym (vb.held ∙ vb.parts)) (in_right c vb.below x.vb.held there), f)
 
   of_held : (y : Change) → IsIn y items → IsOf (r.held n v) y
   of_held y i = let (c, there, e) = sent y i in (c, there, either (g.sync && not (writes_out g begun)) c y e)
@@ -135,7 +147,7 @@ module _ (w : PlainWorld) (r : Chronicle) (cl : Cluster) (a : AgreesIn idle w r 
   abbrev pub moved : Plain
   moved = moved_vb x.vb stream.id stop
 
-  pub marked_stream : stream.ended ≡ false → StreamIs r.tree (r.branch_at n v) (r.held n v) (Some moved) (with_mark r.tree end FROM_MEMORY g) (with_snapshot stream snapshot)
+  pub marked_stream : stream.ended ≡ false → StreamIs r.tree (r.branch_at n v) (r.held n v) (Some moved) (with_mark r.tree end FROM_MEMORY g) (with_snapshot stream (as_sent stream snapshot))
   marked_stream going = record {
     opaque = si.opaque;
     small = si.small;

@@ -6,7 +6,7 @@ unfoldable use Rattle.mcbp_dcp.specs.DcpFrames.{dcp_frame}
 unfoldable use Rattle.dcp_producer.specs.Frames.{next_frame}
 use Rattle.mcbp_dcp.specs.declared.message.DcpMsg.TheVariants as msg
 use Rattle.dcp_producer.specs.declared.next_frame.Waits.{Waits}
-use Rattle.dcp_producer.specs.Firsts.{as_sent, first_of}
+use Rattle.dcp_producer.specs.Firsts.{as_sent}
 use Rattle.dcp_producer.specs.Frames.{Next, alive_next, none_next, close_sent, marker_flags, marker_next, next_by, over, place_requested, place_said, placed_next, quiet, reaches_end, take_answered, taken_next, with_snapshot}
 use Rattle.dcp_producer.specs.Pulling.{QuietOnes, came, frame_put, stream_went}
 use Rattle.dcp_producer.specs.declared.desk.Desk.{Desk}
@@ -14,8 +14,8 @@ use Rattle.dcp_producer.specs.declared.next_frame.NextFrame.{NextFrame}
 use Rattle.dcp_producer.specs.declared.next_frame.NextFrame.TheVariants as next
 use Rattle.flow_control.specs.Windows.{is_open as lets_through}
 use Rattle.node_core.specs.Clients.{PlainClient}
-use Rattle.transcript_law.proofs.indexers.{Ends.{Comes, ended_turn, has, known, moved_step, opens, reached_turn, vb_agrees}, Given.{asked_given, given_so_far, given_states, has_given, turn_given}, Items.{item_turn}, Framed.{wait_of, IsQuietNow, IsWaitingNow, SoFar, client_of, mine, put_more, read, still_open, still_through, turned_so_far, went_agrees, world_of}, Marked.{begun_marked, marked_stream, marker_lawful}, Owning.{with_streams}, Stills.{quiet_stream, waiting_stream}, Replacing.{at_there_replaced, others_replaced, replaced_same}, Replied.{header_is, marker_short, marker_vb, put_is}}
-use Rattle.transcript_law.proofs.invariant.{Agreement.{vb_of}, Carried.{sound_streams}, FirstMarks.{sent_as_given}, ClientsTold.{IsOpenFor, StreamIs}, OpenStreams.{Among}}
+use Rattle.transcript_law.proofs.indexers.{Ends.{Comes, ended_turn, has, known, moved_step, opens, reached_turn, vb_agrees}, Given.{asked_given, given_so_far, given_states, has_given, turn_given}, Items.{item_turn}, Framed.{wait_of, IsQuietNow, IsWaitingNow, SoFar, client_of, mine, put_more, read, still_open, still_through, turned_so_far, went_agrees, world_of}, Marked.{marked_stream, marker_lawful}, Owning.{with_streams}, Stills.{quiet_stream, waiting_stream}, Replacing.{at_there_replaced, others_replaced, replaced_same}, Replied.{header_is, marker_short, marker_vb, put_is}}
+use Rattle.transcript_law.proofs.invariant.{Agreement.{vb_of}, Carried.{sound_streams}, ClientsTold.{IsOpenFor, StreamIs}, OpenStreams.{Among}}
 use Rattle.transcript_law.proofs.links.{Marking.{moved_there, moved_vb, span_snapshot}, Sent.{not_found}, Sources.{from_memory}}
 use Rattle.transcript_law.specs.{ClientFrames.{is_closed_by}, ClientStreams.{vb_in_header, with_mark}, LawfulClients.{IsNextMarker, IsQuiet, LawfulClientMark, WaitsSaved}, Questions.{flow_now, served_frames}, StreamLaws.{FROM_MEMORY}, StreamsTold.{ClientKnown, ClientStream, StreamLine}}
 use Rattle.vb_calls.specs.Streams.{is_in_memory, place_from, placed_by}
@@ -97,30 +97,31 @@ module _ (w : PlainWorld) (r : Chronicle) (cl : Cluster) (n c : ℕ) (node : Pla
 
     -- the marker of a snapshot
     marker_turn : (stop : ℕ) (snapshot : Snapshot) → IsSnapshot x.vb x.stream stop snapshot → x.vb.floor ≤ x.stream.place → snapshot.disk ≡ false → length t.items ≤ t.next → reaches_end t.until t.marked ≡ false
-        → Arrives (with_vb_at (with_vb_at states t.vb x.vb) t.vb (moved_vb x.vb t.id stop), marker_next s.end.desk.stream t snapshot)
+        → Arrives (with_vb_at (with_vb_at states t.vb x.vb) t.vb (moved_vb x.vb t.id stop), marker_next s.end.desk.stream t (as_sent t snapshot))
     marker_turn stop snapshot is near disk whole unreached =
+        let sent : Snapshot = as_sent t snapshot in
         let k = known w r cl n c node session states s g q t i through in
-        let f : Frame = dcp_frame (msg.SnapshotMarker snapshot.start snapshot.end FROM_MEMORY) t.opaque t.vb in
-        let left : PlainStream = with_snapshot t snapshot in
-        let s' : Served = frame_put f (event.Marked s.end.desk.stream snapshot.start snapshot.end FROM_MEMORY) (stream_went left s) in
+        let f : Frame = dcp_frame (msg.SnapshotMarker sent.start sent.end FROM_MEMORY) t.opaque t.vb in
+        let left : PlainStream = with_snapshot t sent in
+        let s' : Served = frame_put f (event.Marked s.end.desk.stream sent.start sent.end FROM_MEMORY) (stream_went left s) in
         let moved : Plain = moved_vb x.vb t.id stop in
         let states' : States = with_vb_at (with_vb_at states t.vb x.vb) t.vb moved in
         let m = mine w r cl n c node session states s g in
         let sound : Sound x.vb = (vb_agrees w r cl n c node session states s g q t i through going).sound in
         let named : s.end.desk.stream ≡ name.Client n c = ap (λ (d : Desk). d.stream) m.conn.desk in
-        let told : Event = event.Marked (name.Client n c) snapshot.start snapshot.end FROM_MEMORY in
-        let header = header_is f t.vb (marker_vb snapshot.start snapshot.end FROM_MEMORY t.opaque t.vb) k.is.small in
+        let told : Event = event.Marked (name.Client n c) sent.start sent.end FROM_MEMORY in
+        let header = header_is f t.vb (marker_vb sent.start sent.end FROM_MEMORY t.opaque t.vb) k.is.small in
         let after_is : states' t.vb ≡ Some moved = ap (λ b. if b then Some moved else with_vb_at states t.vb x.vb t.vb) (eq-eqb t.vb t.vb refl) in
         let others : (j : ℕ) → (j ≡ t.vb → ⊥) → states' j ≡ states j = λ j ne. ap (λ b. if b then Some moved else (if b then Some x.vb else states j)) (ne_eqb j t.vb ne) in
-        subst (λ flag. Arrives (states', (marker_by s.end.desk.stream flag snapshot, left))) (sym disk) (
-          put_more w r cl n c node session states s g t states' s' told f (StreamLine.Marks snapshot.start snapshot.end FROM_MEMORY) (ap (λ y. s.events ++ event.Marked y snapshot.start snapshot.end FROM_MEMORY ∷ []) named) refl
-              (marker_short snapshot.start snapshot.end FROM_MEMORY t.opaque t.vb) refl header (λ u j ne. others_replaced left s.end.streams u j ne) (at_there_replaced left s.end.streams t m.kept.rise m.one i refl refl) refl
-              (mark_lawful here n c (here.clients_at n c) k.g t snapshot.start snapshot.end k.known k.is.small k.is.opaque (still_open w r cl n c node session states s g t k) (still_through w r cl n c node session states s g through) (marker_lawful now here cl g.agrees n t.vb k.g t k.is x stop snapshot is near going whole unreached))
-              (went_agrees w r cl n c node session states s g t left i refl refl (spelling f) (StreamLine.Marks snapshot.start snapshot.end FROM_MEMORY) header states' s'
+        subst (λ flag. Arrives (states', (marker_by s.end.desk.stream flag sent, left))) (sym disk) (
+          put_more w r cl n c node session states s g t states' s' told f (StreamLine.Marks sent.start sent.end FROM_MEMORY) (ap (λ y. s.events ++ event.Marked y sent.start sent.end FROM_MEMORY ∷ []) named) refl
+              (marker_short sent.start sent.end FROM_MEMORY t.opaque t.vb) refl header (λ u j ne. others_replaced left s.end.streams u j ne) (at_there_replaced left s.end.streams t m.kept.rise m.one i refl refl) refl
+              (mark_lawful here n c (here.clients_at n c) k.g t sent.start sent.end k.known k.is.small k.is.opaque (still_open w r cl n c node session states s g t k) (still_through w r cl n c node session states s g through) (marker_lawful now here cl g.agrees n t.vb k.g t k.is x stop snapshot is near going whole unreached))
+              (went_agrees w r cl n c node session states s g t left i refl refl (spelling f) (StreamLine.Marks sent.start sent.end FROM_MEMORY) header states' s'
               (moved_step w r cl n c node session states s g q t i through going moved (Some (client_of w r cl n c node session s')) states'
               (record { sound = sound_streams x.vb moved.streams sound (feeds_moved x.vb.role x.vb.floor t.id stop x.vb.streams x.stream sound.feeds x.opened (let above : x.stream.place < snapshot.end = is.covers.goes_on in let most : snapshot.end ≤ stop = is.within.0 in omega (arith, near, above, most))); alone = refl; others = λ y ne. moved_there t.id stop y x.vb.streams ne }) after_is others)
               others refl refl refl k
-              (subst (λ o. StreamIs here.tree (here.branch_at n t.vb) (here.held n t.vb) o (with_mark here.tree snapshot.end FROM_MEMORY k.g) left) (sym after_is)
+              (subst (λ o. StreamIs here.tree (here.branch_at n t.vb) (here.held n t.vb) o (with_mark here.tree sent.end FROM_MEMORY k.g) left) (sym after_is)
               (marked_stream now here cl g.agrees n t.vb k.g t k.is x stop snapshot is near going))),
           refl,
         )
@@ -183,11 +184,8 @@ module _ (w : PlainWorld) (r : Chronicle) (cl : Cluster) (n c : ℕ) (node : Pla
         by near None ends = subst (λ o. Arrives (with_vb_at (with_vb_at states t.vb x.vb) t.vb x.vb, none_next s.end.desk.stream t o)) (sym feeds) (quiet_turn false (with_vb_at (with_vb_at states t.vb x.vb) t.vb x.vb) twice (λ e. still_now exactly whole unreached near ends) (λ e. cc))
         by near (Some win) ends =
             let (stop, is, moved) = snapshot_is takes x.vb t.id x.stream win (vb_agrees w r cl n c node session states s g q t i through going).sound x.opened near ends in
-            let k = known w r cl n c node session states s g q t i through in
-            let same : as_sent t (span_snapshot x.vb x.stream win) ≡ span_snapshot x.vb x.stream win = sent_as_given x.vb x.stream win.last t (k.is.first ∙ ap first_of (sym x.ask)) (begun_marked k.g (here.held n t.vb) k.g.last t k.is.begun ∙ sym x.taken) in
-            subst (λ sent. Arrives (with_vb_at (with_vb_at states t.vb x.vb) t.vb (take_to (Some win) x.stream x.vb).0, marker_next s.end.desk.stream t sent)) (sym same)
-            (subst (λ vb. Arrives (with_vb_at (with_vb_at states t.vb x.vb) t.vb vb, marker_next s.end.desk.stream t (span_snapshot x.vb x.stream win))) (sym moved)
-            (marker_turn stop (span_snapshot x.vb x.stream win) is ((vb_agrees w r cl n c node session states s g q t i through going).sound.feeds.cursors t.id x.stream x.opened near) refl whole unreached))
+            subst (λ vb. Arrives (with_vb_at (with_vb_at states t.vb x.vb) t.vb vb, marker_next s.end.desk.stream t (as_sent t (span_snapshot x.vb x.stream win)))) (sym moved)
+            (marker_turn stop (span_snapshot x.vb x.stream win) is ((vb_agrees w r cl n c node session states s g q t i through going).sound.feeds.cursors t.id x.stream x.opened near) refl whole unreached)
 
         in_memory : (b : Bool) → x.stream.cursor ≡ b → Arrives (after (place_requested s.end.desk.stream t) states)
         in_memory false none = subst Arrives (sym (waited_turn none (ready none))) (quiet_turn true (with_vb_at states t.vb x.vb) once (λ e. cc) (λ e. waits_now exactly whole unreached (ready none)))

@@ -154,6 +154,16 @@ module _ (takes : TakesSnapshots) (exactly : TakesExactly) (w : PlainWorld) (r :
     rests : Rests told
     rests k is = let state : why_of came.1.1 ≡ Why.WaitState = cc in ends.unstated state
 
+    -- nor ends it for a journal
+    abbrev Reads : States × ClientPulled → Type 0
+    Reads x = (k : ℕ) → x.1.answer ≡ Answer.Pulled k Why.Disk → ⊥
+
+    reads : Reads told
+    reads k is = let disk : why_of came.1.1 ≡ Why.Disk = cc in ends.unread disk
+
+    pub client_reads : Reads (after (client_pulled frames client) node.vbs)
+    client_reads = subst Reads (sym told_is) reads
+
     pub client_rests : Rests (after (client_pulled frames client) node.vbs)
     client_rests = subst Rests (sym told_is) rests
 
@@ -193,6 +203,13 @@ module _ (takes : TakesSnapshots) (exactly : TakesExactly) (w : PlainWorld) (r :
       by : (o : Option PlainClient) → node.clients c ≡ o → (pull_if c frames node o).1.answer ≡ Answer.Pulled k Why.WaitState → ⊥
       by None e = λ is. cc
       by (Some client) e = client_rests client e k
+
+  pub pull_at_reads : (k : ℕ) → (pull_at c frames node).1.answer ≡ Answer.Pulled k Why.Disk → ⊥
+  pull_at_reads k = by (node.clients c) refl
+    where
+      by : (o : Option PlainClient) → node.clients c ≡ o → (pull_if c frames node o).1.answer ≡ Answer.Pulled k Why.Disk → ⊥
+      by None e = λ is. cc
+      by (Some client) e = client_reads client e k
 
   abbrev pub WaitsAsTold : PlainNode × Told → Type 0
   WaitsAsTold x = (k : ℕ) → x.1.answer ≡ Answer.Pulled k Why.WaitSaved → (let read = after_lines r x.1.events in AllRest read n (read.clients_at n c) × OneWaits read n (read.clients_at n c) × (lets_through (flow_now (read.clients_at n c)).window ≡ true))
@@ -253,3 +270,8 @@ pull_shuts takes exactly w r n c frames k ranged a =
 pub pull_rests : TakesSnapshots → TakesExactly → (w : PlainWorld) (r : Chronicle) (n c frames k : ℕ) → IsRanged w → Agrees w r → (on_node w n (pull_at c frames)).1.answer ≡ Answer.Pulled k Why.WaitState → ⊥
 pull_rests takes exactly w r n c frames k ranged a =
     on_node_by (λ x. x.1.answer ≡ Answer.Pulled k Why.WaitState → ⊥) w n (pull_at c frames) (λ z. cc) (λ node known z. cc) (λ node known up. pull_at_rests takes exactly w r n c frames node a known (at_node w n node ranged known) k)
+
+-- and none ends for a journal yet
+pub pull_reads : TakesSnapshots → TakesExactly → (w : PlainWorld) (r : Chronicle) (n c frames k : ℕ) → IsRanged w → Agrees w r → (on_node w n (pull_at c frames)).1.answer ≡ Answer.Pulled k Why.Disk → ⊥
+pull_reads takes exactly w r n c frames k ranged a =
+    on_node_by (λ x. x.1.answer ≡ Answer.Pulled k Why.Disk → ⊥) w n (pull_at c frames) (λ z. cc) (λ node known z. cc) (λ node known up. pull_at_reads takes exactly w r n c frames node a known (at_node w n node ranged known) k)

@@ -1,14 +1,16 @@
 -- what a snapshot of a client's stream sends for each change that its vBucket holds
 use Rattle.std.specs.Prelude.{◌≡◌, ◌<◌, ◌==◌, ◌&&◌, ◌||◌, nat_lt, if◌then◌else◌}
-use Rattle.transcript_law.proofs.Words.{ℕ, Bool, true, false, not, refl, ap, sym, ◌∙◌, subst, arith, nat_tests, inl, inr, Option, Some, None, is_some, and_parts, eqb-true, eq-eqb, Act, Begun, Change, Stream, StreamAsk, effective_ss, effective_se, need_of, start_of}
-use Rattle.std.proofs.lemmas.Bool.{and_from, lt-ltb}
-use Rattle.transcript_law.proofs.invariant.ClientsTold.{StartedAt}
-use Rattle.transcript_law.specs.LawfulClients.{sent_in, starts_below}
+use Rattle.transcript_law.proofs.Words.{ℕ, Bool, true, false, not, List, map, refl, ap, sym, ◌∙◌, arith, nat_tests, Option, Some, None, is_some, Act, Begun, Change, IsIn, PlainStream, Stream, StreamAsk, effective_se, need_of}
+use Rattle.dcp_producer.specs.Firsts.{first_of, items_sent}
+use Rattle.dcp_producer.specs.declared.first.First.{First}
+use Rattle.transcript_law.proofs.indexers.Shown.{in_map}
+use Rattle.transcript_law.proofs.invariant.{ClientsTold.{StartedAt}, FirstMarks.{plain_twice}}
+use Rattle.transcript_law.specs.LawfulClients.{IsSentOf, starts_below, writes_out}
 use Rattle.transcript_law.specs.StreamLaws.{meant_end, meant_start}
 use Rattle.transcript_law.specs.StreamsTold.{ClientStream}
 use Rattle.vb_types.specs.Histories.{plain, plain_act}
 use Rattle.vb_types.specs.declared.change.Act.TheVariants as act
-use Rattle.vbucket.specs.Takes.{IsSentFor, IsWrittenOut, WritesOut}
+use Rattle.vbucket.specs.Takes.{IsSentFor, IsWrittenOut}
 
 written_plain : (a b : Act) → IsWrittenOut a b → b ≡ plain_act a
 written_plain (act.Set doc) b e = e
@@ -18,58 +20,66 @@ written_plain (act.Commit prepared doc true) b e = e
 written_plain (act.Commit prepared doc false) b e = e
 written_plain (act.Abort prepared) b e = e
 
--- a change is sent so, by whether its commits are written out
-sent_by : (t : Bool) (o : Stream) (start : ℕ) (c x : Change) → IsSentFor o start c x → (t ≡ true → WritesOut o start → ⊥) → (t ≡ false → WritesOut o start) → x ≡ (if t then c else plain c)
-sent_by true o start c x f as_is out = λ i. record { seq = f.seq i; key = f.key i; act = f.as_is (as_is refl) i }
-sent_by false o start c x f as_is out = λ i. record { seq = f.seq i; key = f.key i; act = written_plain c.act x.act (f.out (out refl)) i }
+-- a change is given so, by whether the stream is sync
+given_by : (o : Stream) (c x : Change) → IsSentFor o c x → (t : Bool) → o.sync ≡ t → x ≡ (if t then c else plain c)
+given_by o c x f true e = λ i. record { seq = f.seq i; key = f.key i; act = f.as_is e i }
+given_by o c x f false e = λ i. record { seq = f.seq i; key = f.key i; act = written_plain c.act x.act (f.out e) i }
 
-module _ (g : ClientStream) (o : Stream) (ask : o.ask ≡ g.ask) (sync : o.sync ≡ g.sync) (taken : o.taken ≡ is_some g.last) (started : StartedAt g.last g) where
-  -- where its next snapshot starts, and what it needs
-  pub first_start : g.last ≡ None → start_of o ≡ meant_start g.ask
-  first_start e = ap (λ b. if b then o.place else effective_ss o.ask.start o.ask.ss o.ask.se) (taken ∙ ap is_some e) ∙ ap (λ (k : StreamAsk). effective_ss k.start k.ss k.se) ask
+-- and is the same once its commits are written out
+given_out : (o : Stream) (c x : Change) → IsSentFor o c x → plain x ≡ plain c
+given_out o c x f = by o.sync refl
+  where
+    by : (t : Bool) → o.sync ≡ t → plain x ≡ plain c
+    by true e = ap plain (given_by o c x f true e)
+    by false e = ap plain (given_by o c x f false e) ∙ plain_twice c
 
-  pub later_start : (b : Begun) → g.last ≡ Some b → start_of o ≡ o.place
-  later_start b e = ap (λ t. if t then o.place else effective_ss o.ask.start o.ask.ss o.ask.se) (taken ∙ ap is_some e)
+and_true : (b : Bool) → (b && true) ≡ b
+and_true true = refl
+and_true false = refl
 
-  pub first_need : g.last ≡ None → need_of o ≡ meant_end g.ask
-  first_need e = ap (λ b. if b then 0 else effective_se o.ask.start o.ask.ss o.ask.se) (taken ∙ ap is_some e) ∙ ap (λ (k : StreamAsk). effective_se k.start k.ss k.se) ask
+and_false : (b : Bool) → (b && false) ≡ false
+and_false true = refl
+and_false false = refl
 
-  module _ (b : Begun) (from : b.from ≡ g.place) where
-    abbrev as_is : Bool
-    as_is = g.sync && not (starts_below g b)
+-- what its next snapshot needs
+pub first_need : (g : ClientStream) (o : Stream) → o.ask ≡ g.ask → o.taken ≡ is_some g.last → g.last ≡ None → need_of o ≡ meant_end g.ask
+first_need g o ask taken e = ap (λ b. if b then 0 else effective_se o.ask.start o.ask.ss o.ask.se) (taken ∙ ap is_some e) ∙ ap (λ (k : StreamAsk). effective_se k.start k.ss k.se) ask
 
-    begins : (last : Option Begun) → g.last ≡ last → StartedAt last g → (b.from == g.ask.start) ≡ true → g.last ≡ None
-    begins None e s at = e
-    begins (Some k) e s at = let same : b.from ≡ g.ask.start = eqb-true b.from g.ask.start at in absurd (omega (arith, same, from, s))
+module _ (g : ClientStream) (t : PlainStream) (o : Stream) (sync : o.sync ≡ g.sync) (first : t.first ≡ first_of g.ask) (started : StartedAt g.last g) (b : Begun) (from : b.from ≡ g.place) (memory : b.disk ≡ false) where
+  -- whether the snapshot starts below the request's start
+  later_below : (last : Option Begun) → is_some last ≡ true → StartedAt last g → starts_below g b ≡ false
+  later_below None e s = cc
+  later_below (Some k) e s =
+      let above : g.ask.start < g.place = s in
+      let apart : (b.from == g.ask.start) ≡ false = grind (arith, nat_tests, from, above) in ap (λ q. q && nat_lt (meant_start g.ask) g.ask.start) apart
 
-    none_taken : (last : Option Begun) → g.last ≡ last → o.taken ≡ false → g.last ≡ None
-    none_taken None e s = e
-    none_taken (Some k) e s = let z : true ≡ false = sym (ap is_some e) ∙ sym taken ∙ s in cc
+  first_below : (last : Option Begun) → is_some last ≡ false → StartedAt last g → starts_below g b ≡ t.first.as_sets
+  first_below None e s =
+      let there : g.place ≡ g.ask.start = s in
+      let same : (b.from == g.ask.start) ≡ true = grind (arith, nat_tests, from, there) in ap (λ q. q && nat_lt (meant_start g.ask) g.ask.start) same ∙ ap (λ (f : First). f.as_sets) (sym first)
+  first_below (Some k) e s = cc
 
-    below_start : g.last ≡ None → start_of o < o.ask.start → starts_below g b ≡ true
-    below_start none low =
-        let at : b.from ≡ g.ask.start = from ∙ subst (λ last. StartedAt last g) none started in
-        let e : start_of o ≡ meant_start g.ask = first_start none in
-        let f : o.ask.start ≡ g.ask.start = ap (λ (k : StreamAsk). k.start) ask in
-        and_from (b.from == g.ask.start) (nat_lt (meant_start g.ask) g.ask.start) (eq-eqb b.from g.ask.start at) (lt-ltb (meant_start g.ask) g.ask.start (omega (arith, low, e, f)))
+  -- commits of a snapshot from memory are written out where it does
+  out_by : (low : Bool) → starts_below g b ≡ low → writes_out g b ≡ low
+  out_by low e = ap (λ d. d || starts_below g b) memory ∙ e
 
-    whole_out : as_is ≡ true → WritesOut o (start_of o) → ⊥
-    whole_out t (inl plainly) = let z : true ≡ false = sym (and_parts g.sync (not (starts_below g b)) t).0 ∙ sym sync ∙ plainly in cc
-    whole_out t (inr first) =
-        let below : starts_below g b ≡ true = below_start (none_taken g.last refl first.0) first.1 in
-        let z : true ≡ false = sym (and_parts g.sync (not (starts_below g b)) t).1 ∙ ap not below in cc
+  -- each is sent as it is to be sent
+  pub sent_so : (items held : List Change) → ((x : Change) → IsIn x items → (c : Change) × IsIn c held × IsSentFor o c x) → (m : Option ℕ) → is_some m ≡ is_some g.last → (y : Change) → IsIn y (items_sent m t.first items) → IsSentOf g b held y
+  sent_so items held of m is y i = by m is i
+    where
+      as_given : (y : Change) → IsIn y items → writes_out g b ≡ false → IsSentOf g b held y
+      as_given y j low =
+          let (c, there, f) = of y j in
+          (c, there, given_by o c y f g.sync sync ∙ ap (λ q. if q then c else plain c) (sym (and_true g.sync) ∙ ap (λ q. g.sync && not q) (sym low)))
 
-    written : (s : Bool) → g.sync ≡ s → (low : Bool) → starts_below g b ≡ low → as_is ≡ false → WritesOut o (start_of o)
-    written false e low f t = inl (sync ∙ e)
-    written true e false f t = let z : true ≡ false = sym (λ i. e i && not (f i)) ∙ t in cc
-    written true e true f t =
-        let parts = and_parts (b.from == g.ask.start) (nat_lt (meant_start g.ask) g.ask.start) f in
-        let none : g.last ≡ None = begins g.last refl started parts.0 in
-        let s : start_of o ≡ meant_start g.ask = first_start none in
-        let k : o.ask.start ≡ g.ask.start = ap (λ (q : StreamAsk). q.start) ask in
-        let low : meant_start g.ask < g.ask.start = grind (arith, nat_tests, parts.1) in
-        inr (taken ∙ ap is_some none, omega (arith, s, k, low))
+      first_by : (q : Bool) → t.first.as_sets ≡ q → is_some g.last ≡ false → IsIn y (if q then map plain items else items) → IsSentOf g b held y
+      first_by false e none j = as_given y j (out_by false (first_below g.last none started ∙ e))
+      first_by true e none j =
+          let (x, inside, same) = in_map plain items y j in
+          let (c, there, f) = of x inside in
+          let low : writes_out g b ≡ true = out_by true (first_below g.last none started ∙ e) in
+          (c, there, same ∙ given_out o c x f ∙ ap (λ q. if q then c else plain c) (sym (and_false g.sync) ∙ ap (λ q. g.sync && not q) (sym low)))
 
-    -- it is sent as it is to be sent, from memory
-    pub sent_so : b.disk ≡ false → (c x : Change) → IsSentFor o (start_of o) c x → x ≡ sent_in g b c
-    sent_so memory c x f = sent_by as_is o (start_of o) c x f whole_out (written g.sync refl (starts_below g b) refl) ∙ ap (λ d. if g.sync && not (d || starts_below g b) then c else plain c) (sym memory)
+      by : (m : Option ℕ) → is_some m ≡ is_some g.last → IsIn y (items_sent m t.first items) → IsSentOf g b held y
+      by (Some end) is j = as_given y j (out_by false (later_below g.last (sym is) started))
+      by None is j = first_by t.first.as_sets refl (sym is) j

@@ -10,11 +10,11 @@ use Rattle.vb_types.specs.Histories.{Slot, is_visible, last_of, plain, plain_act
 use Rattle.vb_types.specs.declared.change.Act.{Act}
 use Rattle.vb_types.specs.declared.change.Act.TheVariants as act
 
-mapped_in : (f : Change → Change) (xs : List Change) (c : Change) → IsIn c xs → IsIn (f c) (map f xs)
+pub mapped_in : (f : Change → Change) (xs : List Change) (c : Change) → IsIn c xs → IsIn (f c) (map f xs)
 mapped_in f [] c i = absurd i
 mapped_in f (x ∷ xs) c i = ⊎_elim (λ e. inl (ap f e)) (λ j. inr (mapped_in f xs c j)) i
 
-in_map : (f : Change → Change) (xs : List Change) (y : Change) → IsIn y (map f xs) → (c : Change) × IsIn c xs × (y ≡ f c)
+pub in_map : (f : Change → Change) (xs : List Change) (y : Change) → IsIn y (map f xs) → (c : Change) × IsIn c xs × (y ≡ f c)
 in_map f [] y i = absurd i
 in_map f (x ∷ xs) y i = ⊎_elim (λ e. (x, inl refl, e)) (λ j. let k = in_map f xs y j in (k.0, inr k.1, k.2)) i
 

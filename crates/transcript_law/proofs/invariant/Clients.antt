@@ -21,6 +21,7 @@ use Rattle.vb_disk.specs.declared.made.Outcome.{Outcome as Left}
 use Rattle.vb_types.specs.declared.journal.FlushPart.TheVariants as part
 use Rattle.transcript_law.proofs.invariant.ClientWorlds.{ended_are, posts_in_go, Came, ConnsAre, Goes, NodeToldIf, armed, came, crash_came, down_came, down_say, flush_goes, made, on, over, put_node, put_same, role_goes, save_goes, settled_goes, stays, told_at, unless, unless_node, unlinked_are, up_goes}
 use Rattle.transcript_law.proofs.invariant.{ClientStarts.{start_came}, Ranged.{pull_kept}}
+use Rattle.node_world.specs.Links.{drop_at}
 
 unless_came : (conns : Conns) (w : PlainWorld) (o : Outcome) (why : Option Cause) → ConnsAre w conns → Came conns o → Came conns (refused_or why w o)
 unless_came conns w o None are g = g
@@ -196,10 +197,12 @@ module _ (conns : Conns) (w : PlainWorld) (number : ℕ) (are : ConnsAre w conns
   line_heard (Verb.AtLink l (LinkVerb.Down wanted)) fits = down_came conns w l (row_at link_number l w.links) (on_link w l consumer_node (down_in wanted)) (over conns w l consumer_node (down_in wanted) are (λ link node t.
       stays conns (consumer_node link) node (down_in wanted link node).0 (down_in wanted link node).1.1.events (down_mute wanted link node) (λ c. refl) refl t))
   line_heard (Verb.AtLink l (LinkVerb.Pump frames)) fits = came conns (verb_step w number (Verb.AtLink l (LinkVerb.Pump frames))) (pump_goes_on conns w l frames are)
+  line_heard (Verb.AtLink l LinkVerb.Drop) fits = came conns (verb_step w number (Verb.AtLink l LinkVerb.Drop)) (over conns w l producer_node drop_at are (λ link node t. stays conns (producer_node link) node (drop_at link node).0 [] tt (λ c. refl) refl t))
   line_heard (Verb.AtLink l LinkVerb.Cut) fits = elim (row_at link_number l w.links) as (λ o. Came conns (cut_outcome w o)) [ None ↦ (tt, are) | Some link ↦ ((tt, tt), unlinked_are w conns link are) ]
   line_heard (Verb.AtVb n v (VbVerb.Promote uuid)) fits = armed conns n w (promote_step w n v uuid) (unless conns w (role_outcome n v (AdminCall.Promote uuid) w) (first_cause (promote_causes w n v uuid)) are (role_goes conns w n v (AdminCall.Promote uuid) refl are))
   line_heard (Verb.AtVb n v VbVerb.Follow) fits = armed conns n w (turn_step w n v Role.Replica AdminCall.Follow) (turn_goes conns w n v Role.Replica AdminCall.Follow refl are)
   line_heard (Verb.AtVb n v VbVerb.Dead) fits = armed conns n w (turn_step w n v Role.Dead AdminCall.Dead) (turn_goes conns w n v Role.Dead AdminCall.Dead refl are)
+  line_heard (Verb.AtVb n v VbVerb.Trim) fits = came conns (verb_step w number (Verb.AtVb n v VbVerb.Trim)) (admin_goes n v AdminCall.Trim (λ node. kept_mute n v AdminCall.Trim node refl))
   line_heard (Verb.AtVb n v VbVerb.Seal) fits = came conns (verb_step w number (Verb.AtVb n v VbVerb.Seal)) (admin_goes n v AdminCall.Seal (λ node. kept_mute n v AdminCall.Seal node refl))
   line_heard (Verb.AtVb n v VbVerb.Take) fits = came conns (verb_step w number (Verb.AtVb n v VbVerb.Take)) (on conns w n (flush_line n v part.Take) are (λ node t. flush_goes conns n v part.Take node t))
   line_heard (Verb.AtVb n v VbVerb.Save) fits = armed conns n w (on_node w n (save_line n v)) (on conns w n (save_line n v) are (λ node t. save_goes conns n v node t))

@@ -40,7 +40,7 @@ agreed w r c a = record { role = λ n v. roles n v (vb_of w n v) refl (a.vbs n v
     snaps n v (Some vb) x = (_, x.snap)
 
 -- after more lines all agree
-agrees_from : (w : PlainWorld) (r : Chronicle) (script : List ScriptLine) → ScriptFits script → Along w r → Agrees (world_after w script) (known_after r script (groups_from w script))
+pub agrees_from : (w : PlainWorld) (r : Chronicle) (script : List ScriptLine) → ScriptFits script → Along w r → Agrees (world_after w script) (known_after r script (groups_from w script))
 unfolding world_step
 agrees_from w r [] fits x = x.agrees
 agrees_from w r (line ∷ lines) fits x =

@@ -1,9 +1,9 @@
 -- where a snapshot of a vBucket may end, by its spans
-use Rattle.std.specs.Prelude.{◌≡◌, ◌<◌, ◌≤◌, ◌∷◌, ◌++◌, ◌⊎◌, ◌&&◌}
-use Rattle.transcript_law.proofs.Words.{ℕ, Bool, true, false, List, [], refl, ap, sym, ◌∙◌, subst, inl, inr, ⊎_elim, arith, is_some, Option, Some, None, not, nat_lt, and_parts}
-use Rattle.transcript_law.proofs.Words.{ltb-true, Position, Role, fork_of, start_cases, Own, Received, Span, is_active, complete_position, Spans, no_spans, all_spans, with_seal, with_change, is_whole}
+use Rattle.std.specs.Prelude.{◌≡◌, ◌<◌, ◌≤◌, ◌∷◌, ◌++◌, ◌⊎◌, ◌&&◌, ◌+◌, length, nat_le}
+use Rattle.transcript_law.proofs.Words.{ℕ, Bool, true, false, cond, filter, List, [], refl, ap, sym, ◌∙◌, subst, inl, inr, ⊎_elim, arith, is_some, Option, Some, None, not, nat_lt, and_parts}
+use Rattle.transcript_law.proofs.Words.{ltb-false, ltb-true, Position, Role, fork_of, start_cases, Own, Received, Span, is_active, complete_position, Spans, no_spans, all_spans, with_seal, with_change, is_whole}
 use Rattle.transcript_law.proofs.Words.{Grown}
-use Rattle.{std.proofs.lemmas.Bool.{false_from_ne_true, and_from, lt-ltb}, std.specs.Prelude.{option_to_list}, vb_calls.specs.Spans.{starts_below}, vb_calls.specs.declared.span.Origin.{Origin}}
+use Rattle.{std.proofs.lemmas.Bool.{false_from_ne_true, and_from, le-leb, leb-true, lt-ltb}, std.specs.Prelude.{option_to_list}, vb_calls.specs.Spans.{starts_below}, vb_calls.specs.Trims.{end_of, ended_by}, vb_calls.specs.declared.span.Origin.{Origin}}
 use Rattle.vbucket.specs.Laws.{Follow}
 
 -- a snapshot of these spans, which begin at the floor, may end at n, at a seqno that the position does not rely on another branch for
@@ -178,3 +178,91 @@ spanned_none role p = record { inside = λ w i above. absurd i; current = λ w q
 pub joined_opens : (ws : Spans) (joined : Option Span) (alone : Span) → is_some (with_change ws joined alone).current ≡ true
 joined_opens ws None alone = refl
 joined_opens ws (Some w) alone = refl
+
+-- spans of which the sealed ones are given up that end at n at most
+abbrev pub trimmed_spans : ℕ → Spans → Spans
+trimmed_spans n ws = record { sealed = filter (λ w. nat_lt n w.last) ws.sealed; current = ws.current }
+
+in_kept : (n : ℕ) (ws : List Span) (w : Span) → IsSpanIn w (filter (λ x. nat_lt n x.last) ws) → IsSpanIn w ws
+in_kept n [] w i = absurd i
+in_kept n (x ∷ xs) w i = by (nat_lt n x.last) i (in_kept n xs w)
+  where
+    by : (b : Bool) → IsSpanIn w (cond b (x ∷ filter (λ y. nat_lt n y.last) xs) (filter (λ y. nat_lt n y.last) xs)) → (IsSpanIn w (filter (λ y. nat_lt n y.last) xs) → IsSpanIn w xs) → IsSpanIn w (x ∷ xs)
+    by true j old = ⊎_elim (λ e. inl e) (λ k. inr (old k)) j
+    by false j old = inr (old j)
+
+kept_in : (n : ℕ) (ws : List Span) (w : Span) → IsSpanIn w ws → nat_lt n w.last ≡ true → IsSpanIn w (filter (λ x. nat_lt n x.last) ws)
+kept_in n [] w i e = absurd i
+kept_in n (x ∷ xs) w i e = ⊎_elim
+    (λ s. subst (λ b. IsSpanIn w (cond b (x ∷ filter (λ y. nat_lt n y.last) xs) (filter (λ y. nat_lt n y.last) xs))) (sym (subst (λ (y : Span). nat_lt n y.last ≡ true) s e)) (inl s))
+    (λ j. by (nat_lt n x.last) (kept_in n xs w j e)) i
+  where
+    by : (b : Bool) → IsSpanIn w (filter (λ y. nat_lt n y.last) xs) → IsSpanIn w (cond b (x ∷ filter (λ y. nat_lt n y.last) xs) (filter (λ y. nat_lt n y.last) xs))
+    by true j = inr j
+    by false j = j
+
+pub all_trimmed : (n : ℕ) (ws : Spans) (w : Span) → IsSpanIn w (all_spans (trimmed_spans n ws)) → IsSpanIn w (all_spans ws)
+all_trimmed n ws w i = ⊎_elim
+    (λ j. in_first w ws.sealed (option_to_list ws.current) (in_kept n ws.sealed w j))
+    (λ j. in_last w ws.sealed (option_to_list ws.current) j)
+    (in_part w (trimmed_spans n ws).sealed (option_to_list ws.current) i)
+
+-- what is given up ends at or above where it began, and each of its spans ends there at most
+end_above : (n low from high : ℕ) (ws more : List Span) → low ≤ from → Follow from (ws ++ more) high → low ≤ end_of low (ended_by n ws)
+end_above n low from high [] more l f = omega arith
+end_above n low from high (x ∷ xs) more l f =
+    let up : from < x.last = f.1 in
+    by (nat_le x.last n) (end_above n x.last x.last high xs more (omega arith) f.2) (end_above n low x.last high xs more (omega arith) f.2)
+  where
+    by : (b : Bool) → x.last ≤ end_of x.last (ended_by n xs) → low ≤ end_of low (ended_by n xs) → low ≤ end_of low (cond b (x ∷ ended_by n xs) (ended_by n xs))
+    by true a b = let up : from < x.last = f.1 in omega (arith, a, l, up)
+    by false a b = b
+
+gone_low : (n low from high : ℕ) (ws more : List Span) (w : Span) → low ≤ from → Follow from (ws ++ more) high → IsSpanIn w ws → w.last ≤ n → w.last ≤ end_of low (ended_by n ws)
+gone_low n low from high [] more w l f i m = absurd i
+gone_low n low from high (x ∷ xs) more w l f i m =
+    let up : from < x.last = f.1 in
+    ⊎_elim
+    (λ (s : w ≡ x).
+    let same : w.last ≡ x.last = ap (λ (y : Span). y.last) s in
+    subst (λ b. w.last ≤ end_of low (cond b (x ∷ ended_by n xs) (ended_by n xs))) (sym (le-leb x.last n (omega arith)))
+    (let e : x.last ≤ end_of x.last (ended_by n xs) = end_above n x.last x.last high xs more (omega arith) f.2 in omega (arith, e, same)))
+    (λ j. by (nat_le x.last n) (gone_low n x.last x.last high xs more w (omega arith) f.2 j m) (gone_low n low x.last high xs more w (omega arith) f.2 j m)) i
+  where
+    by : (b : Bool) → w.last ≤ end_of x.last (ended_by n xs) → w.last ≤ end_of low (ended_by n xs) → w.last ≤ end_of low (cond b (x ∷ ended_by n xs) (ended_by n xs))
+    by true a b = a
+    by false a b = b
+
+-- none of them is empty, so there are at most so many as the seqno up to which they may go
+few_ended : (n low high : ℕ) (ws more : List Span) → Follow low (ws ++ more) high → (length (ended_by n ws) ≡ 0) ⊎ (low + length (ended_by n ws) ≤ n)
+few_ended n low high [] more f = inl refl
+few_ended n low high (x ∷ xs) more f = by (nat_le x.last n) refl (few_ended n x.last high xs more f.2)
+  where
+    by : (b : Bool) → nat_le x.last n ≡ b → (length (ended_by n xs) ≡ 0) ⊎ (x.last + length (ended_by n xs) ≤ n) → (length (cond b (x ∷ ended_by n xs) (ended_by n xs)) ≡ 0) ⊎ (low + length (cond b (x ∷ ended_by n xs) (ended_by n xs)) ≤ n)
+    by true e old =
+        let up : low < x.last = f.1 in
+        let ends : x.last ≤ n = leb-true x.last n e in
+        inr (⊎_elim (λ none. omega (arith, none, up, ends)) (λ more. omega (arith, more, up)) old)
+    by false e old = let up : low < x.last = f.1 in ⊎_elim (λ none. inl none) (λ more. inr (omega (arith, more, up))) old
+
+pub few_trimmed : (n low high : ℕ) (ws : Spans) → Follow low (all_spans ws) high → length (ended_by n ws.sealed) ≤ n
+few_trimmed n low high ws f = ⊎_elim (λ none. omega (arith, none)) (λ some. omega (arith, some)) (few_ended n low high ws.sealed (option_to_list ws.current) f)
+
+-- a snapshot may end above what is given up where it could before
+pub whole_trimmed : (n low high : ℕ) (ws : Spans) (k : ℕ) → Follow low (all_spans ws) high → end_of low (ended_by n ws.sealed) ≤ k → is_whole k (all_spans (trimmed_spans n ws)) ≡ true → is_whole k (all_spans ws) ≡ true
+whole_trimmed n low high ws k f above whole = whole_from k (all_spans ws) (λ w i. ⊎_elim
+    (λ j. by w j (nat_lt n w.last) refl)
+    (λ j. whole_at k (all_spans (trimmed_spans n ws)) w whole (in_last w (trimmed_spans n ws).sealed (option_to_list ws.current) j))
+    (in_part w ws.sealed (option_to_list ws.current) i))
+  where
+    by : (w : Span) → IsSpanIn w ws.sealed → (b : Bool) → nat_lt n w.last ≡ b → Cuts k w ≡ false
+    by w j true e = whole_at k (all_spans (trimmed_spans n ws)) w whole (in_first w (trimmed_spans n ws).sealed (option_to_list ws.current) (kept_in n ws.sealed w j e))
+    by w j false e = no_cut (nat_lt k w.last) (starts_below k w.origin) (λ cut.
+        let past : k < w.last = ltb-true k w.last cut in
+        let ends : w.last ≤ n = ltb-false n w.last e in
+        let stops : w.last ≤ end_of low (ended_by n ws.sealed) = gone_low n low low high ws.sealed (option_to_list ws.current) w (omega arith) f j ends in
+        absurd (omega arith))
+
+-- and they stand with the position as they did
+pub spanned_trimmed : (role : Role) (n : ℕ) (ws : Spans) (p : Position) → Spanned role ws p → Spanned role (trimmed_spans n ws) p
+spanned_trimmed role n ws p i = record { inside = λ w j above. i.inside w (all_trimmed n ws w j) above; current = i.current }

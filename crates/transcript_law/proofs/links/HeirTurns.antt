@@ -182,6 +182,7 @@ module _ (w : PlainWorld) (r : Chronicle) (l : ℕ) (link : PlainLink) (node : P
             stated = inr handed;
           },
         );
+        unread = λ e. cc;
       }
 
       wait_turn : t.answered ≡ false → Comes (states, quiet Waits.State t.stream)

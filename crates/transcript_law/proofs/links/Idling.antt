@@ -8,7 +8,7 @@ use Rattle.branch_model.{proofs.Lasts.{kept_in_filter, rises_filter}, specs.Requ
 use Rattle.std.proofs.lemmas.{Bool.{and_from, le-leb, lt-ltb}, List.{take_all}}
 use Rattle.std.specs.{List.{find}, Prelude.{nat_le, nat_lt}, Str.{bytes_eq}}
 use Rattle.vb_calls.specs.Spans.{is_whole, key_lasts, live_in, live_of, starts_below, stretch}
-use Rattle.vb_calls.specs.Streams.{has_any, is_end_for, is_plain_next, is_seen, items_to, may_end, sent_as, span_items}
+use Rattle.vb_calls.specs.Streams.{has_any, is_end_for, is_plain, is_seen, items_to, may_end, sent_as, span_items}
 use Rattle.vb_calls.specs.declared.span.Origin.{Origin}
 use Rattle.vb_types.specs.Histories.{is_visible}
 use Rattle.vbucket.specs.Laws.{AllSpans, Follow, IsSpan}
@@ -65,7 +65,7 @@ module _ (s : Stream) (sync : s.sync ≡ true) (h : List Change) (floor high : �
       let part : List Change = stretch w.above w.last h in
       let inside : IsIn c part = kept_in_filter (λ d. nat_lt w.above d.seq && nat_le d.seq w.last) c h there (and_from (nat_lt w.above c.seq) (nat_le c.seq w.last) (lt-ltb w.above c.seq (omega arith)) (le-leb c.seq w.last (omega arith))) in
       let final : IsFinal c part = final_is floor high part c (rises_filter (λ d. nat_lt w.above d.seq && nat_le d.seq w.last) floor high h rises) inside (λ d i. low c at d (in_filter (λ e. nat_lt w.above e.seq && nat_le e.seq w.last) d h i).1) in
-      any_sent (sent_as (is_plain_next s)) (filter (λ d. nat_lt s.place d.seq && is_seen s.sync d.act) (live_in w h)) c
+      any_sent (sent_as (is_plain s)) (filter (λ d. nat_lt s.place d.seq && is_seen s.sync d.act) (live_in w h)) c
       (kept_in_filter (λ d. nat_lt s.place d.seq && is_seen s.sync d.act) c (live_in w h) (final_live w.origin part c final)
       (and_from (nat_lt s.place c.seq) (is_seen s.sync c.act) (lt-ltb s.place c.seq (omega arith)) (ap (λ b. b || is_visible c.act) sync)))
     where

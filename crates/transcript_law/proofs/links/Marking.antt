@@ -1,7 +1,7 @@
 -- a producer takes its stream's next snapshot of its vBucket, and puts its marker
 use Rattle.std.specs.Prelude.{◌≡◌, ◌≤◌, if◌then◌else◌, ◌<◌, ◌∷◌, ◌++◌, ◌==◌, ◌&&◌}
 use Rattle.transcript_law.proofs.Words.{length-append, map-append, ℕ, true, false, refl, ap, sym, ◌∙◌, subst, arith, Some, Snapshot, Covers, Stream, Span, Plain, plain_step, all_spans, is_whole}
-use Rattle.transcript_law.proofs.Words.{stream_at, need_of, start_of, end_span, take_to, take_from, Sound, TakesSnapshots, Bool, cond, List, [], length, map, drop, ⊎_elim, append_assoc, append-nil}
+use Rattle.transcript_law.proofs.Words.{stream_at, need_of, end_span, take_to, take_from, Sound, TakesSnapshots, Bool, cond, List, [], length, map, drop, ⊎_elim, append_assoc, append-nil}
 use Rattle.transcript_law.proofs.Words.{Option, None, is_some, not, All, eqb-true, ne_eqb, Frame, dcp_frame, Change, Position, StreamAsk, last_seq, effective_ss, effective_se, fork_of, Branch}
 use Rattle.transcript_law.proofs.Words.{hist, Feed, Member, flight_from, flight_end, member_reach, Flight, PlainStream, Begun, Granted, stream_branch, with_begun, item_of_change, IsWholeIf, IsMarker, PlainProducer}
 use Rattle.transcript_law.proofs.{Words.{PlainConsumer}, links.Sent.{fits_of, all_by_each, drop_whole, flight_frames_push, flight_end_push, sending_tail}, invariant.Agreement.{ChangeFits, BegunAgrees, GivenIn, Handing, Open, StreamAgrees, has_pended, is_sending, kept_stream, Streaming, tail_frames, top}}
@@ -10,7 +10,9 @@ use Rattle.transcript_law.proofs.invariant.Tables.{never}
 use Rattle.branch_model.proofs.Lists.{in_right, from_upto, last_in, rises_in, upto-append}
 use Rattle.vb_types.specs.Histories.{Rises, Slot, last_by, last_of, touches, upto}
 use Rattle.std.specs.Option.{option_or}
+use Rattle.dcp_producer.specs.Firsts.{as_sent, first_of, start_sent}
 use Rattle.dcp_producer.specs.Frames.{marker_flags}
+use Rattle.transcript_law.proofs.invariant.FirstMarks.{covers_sent, start_of, starts_sent}
 use Rattle.transcript_law.{proofs.links.Sources.{disk_told}, specs.StreamLaws.{IsUnreplaced}, specs.StreamsTold.{is_from_disk}}
 use Rattle.{branch_model.proofs.Ruling.{reach_cases}, branch_model.specs.Snapshots.{plain_view, AllOf}, cluster_model.specs.Clusters.{Ground, FirstReaches}}
 use Rattle.{mcbp_dcp.specs.declared.message.DcpMsg.TheVariants.{SnapshotMarker}, std.proofs.lemmas.Bool.{false_from_ne_true, true_from_ne_false}, std.proofs.lemmas.List.{take_all}}
@@ -304,9 +306,10 @@ pub record SnapshotTaken (vb : Plain) (id : ℕ) (s : Stream) (snapshot : Snapsh
 abbrev pub span_snapshot : Plain → Stream → Span → Snapshot
 span_snapshot vb s w = snapshot_of s (items_to s (all_spans vb.spans) vb.held w.last)
 
-pub taken_is : TakesSnapshots → (vb : Plain) (id : ℕ) (s : Stream) (w : Span) → Sound vb → stream_at id vb.streams ≡ Some s → s.sync ≡ true → s.cursor ≡ true → end_span s (all_spans vb.spans) vb.held ≡ Some w
-    → SnapshotTaken vb id s (span_snapshot vb s w) (take_to (Some w) s vb).0
-taken_is takes vb id s w sound found sync near ends =
+-- it is sent as a snapshot, of which the marker starts where the request means, if it is the first one
+pub taken_is : TakesSnapshots → (vb : Plain) (id : ℕ) (s : Stream) (w : Span) (t : PlainStream) → t.first ≡ first_of s.ask → is_some t.marked ≡ s.taken → Sound vb → stream_at id vb.streams ≡ Some s → s.sync ≡ true → s.cursor ≡ true
+    → end_span s (all_spans vb.spans) vb.held ≡ Some w → SnapshotTaken vb id s (as_sent t (span_snapshot vb s w)) (take_to (Some w) s vb).0
+taken_is takes vb id s w t first marked sound found sync near ends =
     let snapshot : Snapshot = span_snapshot vb s w in
     let step : plain_step vb (Take id) ≡ take_to (Some w) s vb = ap (λ o. take_from o vb) found ∙ ap (λ b. take_to (if b then end_span s (all_spans vb.spans) vb.held else None) s vb) near ∙ ap (λ o. take_to o s vb) ends in
     let (s', end, found', is', after) = takes vb id snapshot sound (ap (λ x. x.1.answer) step) in
@@ -316,10 +319,10 @@ taken_is takes vb id s w sound found sync near ends =
     record {
       fed = sound.feeds.cursors id s found near;
       disk = refl;
-      covers = subst (λ h. Covers snapshot.items h s.place snapshot.end) (ap (λ b. if b then vb.held else plain_view vb.held) sync) is.covers;
+      covers = covers_sent t.marked t.first snapshot.items vb.held s.place snapshot.end (subst (λ h. Covers snapshot.items h s.place snapshot.end) (ap (λ b. if b then vb.held else plain_view vb.held) sync) is.covers);
       need = let n : need_of s ≤ end = is.reaches in omega arith;
       whole = subst (λ i. is_whole i (all_spans vb.spans) ≡ true) (sym full) is.whole;
       below = let n : snapshot.end ≤ end = is.within.0 in let m : end ≤ vb.position.at = is.within.1 in omega arith;
-      starts = is.starts;
+      starts = ap (start_sent t.marked t.first) is.starts ∙ starts_sent s t first t.marked marked;
       after_is = sym (ap (λ x. x.0) step) ∙ after ∙ ap (λ n. moved_vb vb id n) (sym full);
     }

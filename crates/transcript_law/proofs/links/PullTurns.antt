@@ -63,7 +63,7 @@ module _ (w : PlainWorld) (r : Chronicle) (l : ℕ) (link : PlainLink) (node : P
 
     -- where the connection has no stream, nothing is put
     none_turn : AllPut read l × NoneTakesOn read l → s.end.streams ≡ [] → lets_through s.end ≡ true → Goal
-    none_turn put none free = subst (λ prog. TurnsSoFar w r l link node (after prog states)) (sym (no_frame_of s none free)) (g, record { idle = λ e. put; saved = λ e. cc; state = λ e. cc }, record { full = λ e. cc; some = λ e. cc; waiting = λ e. cc })
+    none_turn put none free = subst (λ prog. TurnsSoFar w r l link node (after prog states)) (sym (no_frame_of s none free)) (g, record { idle = λ e. put; saved = λ e. cc; state = λ e. cc; unread = λ e. cc }, record { full = λ e. cc; some = λ e. cc; waiting = λ e. cc })
 
     talk_turn : TakesSnapshots → StaysSound → lets_through s.end ≡ true
         → EndsStand (wants_of la.follower) (c.nodes (consumer_seat here)) (vb_of now (producer_node here) vb) (c.nodes (producer_seat here)) (read.stream_of (Link (link_number here)) vb) (read.stated_of (link_number here)) (read.point_of (link_number here)) here.server here.consumer

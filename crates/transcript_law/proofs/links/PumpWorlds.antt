@@ -86,11 +86,12 @@ pub record SoFar (w : PlainWorld) (r : Chronicle) (l : ℕ) (link : PlainLink) (
   pub beside : OthersKept w l r (after_lines r s.events)
   pub ends : PutsSo r link s.out
 
--- where no frame was put: if there is no more to put, all was put that the lines so far let the stream have, and it is of no takeover; and if a state is waited for, a stream of one stands behind that
+-- where no frame was put: if there is no more to put, all was put that the lines so far let the stream have, and it is of no takeover; if a state is waited for, a stream of one stands behind that; and it is for no journal yet
 pub record Stopped (r : Chronicle) (l : ℕ) (why : Why) : Type 0 where
   pub idle : why ≡ Why.Idle → AllPut r l × NoneTakesOn r l
   pub saved : why ≡ Why.WaitSaved → NoneAwaits r l
   pub state : why ≡ Why.WaitState → (dial : Dial) × (g : Granted) × Awaits r l dial g
+  pub unread : why ≡ Why.Disk → ⊥
 
 -- a stream waits for the answer to a state, or behind it until its vBucket is given up
 abbrev pub IsWaiting : Option GiveUp → Type 0
@@ -109,7 +110,7 @@ TurnSoFar w r l link node states (Stop stopped) = SoFar w r l link node states s
 
 -- a window that is shut says nothing
 pub full_stopped : (r : Chronicle) (l : ℕ) → Stopped r l Why.Full
-full_stopped r l = record { idle = λ e. cc; saved = λ e. cc; state = λ e. cc }
+full_stopped r l = record { idle = λ e. cc; saved = λ e. cc; state = λ e. cc; unread = λ e. cc }
 
 -- of the states and what a program came to
 abbrev pub TurnsSoFar : PlainWorld → Chronicle → ℕ → PlainLink → PlainNode → States × Turn Pulling (Served × Halt) → Type 0

@@ -196,7 +196,7 @@ module _ (w : PlainWorld) (r : Chronicle) (l : ℕ) (link : PlainLink) (node : P
 
     -- a stream behind a state waits for the answer, or until its vBucket is given up
     pub waits_state : is_sending t.handing ≡ false → Stopped read l Why.WaitState
-    waits_state rests = record { idle = λ e. cc; saved = λ e. cc; state = λ e. (dial, t.granted_is, waits_by t.handing refl rests) }
+    waits_state rests = record { idle = λ e. cc; saved = λ e. cc; state = λ e. (dial, t.granted_is, waits_by t.handing refl rests); unread = λ e. cc }
 
     waiting_by : (h : Handing) → t.handing ≡ h → is_sending h ≡ false → IsWaiting t.stream.gives
     waiting_by Handing.Unstated e rests = cc
@@ -222,7 +222,7 @@ module _ (w : PlainWorld) (r : Chronicle) (l : ℕ) (link : PlainLink) (node : P
     none_by other e sends d g' x = cc
 
     pub waits_saved : is_sending t.handing ≡ true → Stopped read l Why.WaitSaved
-    waits_saved sends = record { idle = λ e. cc; saved = λ e. none_by t.handing refl sends; state = λ e. cc }
+    waits_saved sends = record { idle = λ e. cc; saved = λ e. none_by t.handing refl sends; state = λ e. cc; unread = λ e. cc }
 
     -- and one of no takeover has none to put
     pub takes_none : link.consumer.dialed.takeover ≡ false → NoneTakesOn read l

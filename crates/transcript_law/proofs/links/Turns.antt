@@ -9,7 +9,6 @@ use Rattle.transcript_law.proofs.Words.{Plain, all_spans, stream_at, end_span, i
 use Rattle.transcript_law.proofs.invariant.Agreement.{acked_still, vb_of, is_granted, is_refused_ack, spoken, FeederIn, FollowsBy, Handing, follows_in, gives_in, is_sending, stated_in, kept_stream, Streaming, consumer_seat, producer_seat, LinkAgrees, IsLow, idle, AgreesIn, wants_of, EndsStand, own_history, VbAgrees}
 use Rattle.transcript_law.proofs.{invariant.Agreement.{AgreesAt, Open, top}, invariant.Noted.{CameIf, KeptFor, NotedStream}, invariant.OneLink.{carries_producer, disk_here, disk_there}}
 use Rattle.transcript_law.proofs.{links.Sent.{end_readable, marker_readable}, links.Putting.{StatesNext, begun_of, sent_is_told, item_handing, item_streaming, end_handing, end_streaming, item_readable, state_gives, stated_stream}, links.Marking.{whole_if, items_fit, moved_there}}
-use Rattle.transcript_law.proofs.invariant.FirstMarks.{sent_as_given}
 use Rattle.transcript_law.proofs.{links.Marking.{covers_more, moved_vb, sent_member, taken_stream, start_is, reaches, marker_handing, marker_lawful, marker_streaming, SnapshotTaken, taken_is, span_snapshot}, links.PumpWorlds.{others_stream, LinkKnown, OwnedBy, owned_one, kept_one, noted_one, pumped_shelves, served_link, pumped, so_far_again, stepped_one, SoFar}}
 use Rattle.transcript_law.proofs.{links.PutFrames.{dialed_vb, downs_with, end_with, found_here, given_as, link_with, named, numbered, put_agrees, put_with, relinked_twice, stands_with}, links.StateTurns.{handed_is, marked_in, turned_is, state_so_far, stated_next, takes_none, waits_on, waits_saved, waits_state}}
 use Rattle.transcript_law.proofs.{links.Spoken.{message_spoken}, links.PumpWorlds.{TurnsSoFar, told_stream, so_far_more, pumped_here, pumped_powers, pumped_where, once_same, twice_here, twice_there, twice_same}, links.Windows.{so_far_turned}, invariant.Seats.{seat_one}}
@@ -439,13 +438,11 @@ module _ (w : PlainWorld) (r : Chronicle) (l : ℕ) (link : PlainLink) (node : P
               → o.cursor ≡ true → (x : Option Span) → end_span o (all_spans p.spans) p.held ≡ x → Comes (taken_turn (take_to x o p))
           by o opened asked sync placed before near None ends = nothing o (record { opened = opened; asked = asked; sync = sync; placed = placed; before = before; near = near; ends = ends })
           by o opened asked sync placed before near (Some win) ends =
-              let snapshot : Snapshot = span_snapshot p o win in
-              let taken : SnapshotTaken p t.stream.id o snapshot (take_to (Some win) o p).0 = taken_is takes p t.stream.id o win producer_agrees.sound opened sync near ends in
+              let snapshot : Snapshot = as_sent t.stream (span_snapshot p o win) in
+              let taken : SnapshotTaken p t.stream.id o snapshot (take_to (Some win) o p).0 = taken_is takes p t.stream.id o win t.stream (t.streams.first_is ∙ ap first_of (sym asked)) (t.streams.marked_is ∙ sym before) producer_agrees.sound opened sync near ends in
               let moved_is : SnapshotTaken p t.stream.id o snapshot (moved_vb p t.stream.id snapshot.end) = subst (SnapshotTaken p t.stream.id o snapshot) taken.after_is taken in
-              let same : as_sent t.stream snapshot ≡ snapshot = sent_as_given p o win.last t.stream (t.streams.first_is ∙ ap first_of (sym asked)) (t.streams.marked_is ∙ sym before) in
-              subst (λ sent. Comes (with_vb_at (with_vb_at states t.stream.vb p) t.stream.vb (take_to (Some win) o p).0, marker_next name t.stream sent)) (sym same)
-              (subst (λ x. Comes (with_vb_at (with_vb_at states t.stream.vb p) t.stream.vb x, marker_next name t.stream snapshot)) (sym taken.after_is)
-              (marker_so_far o snapshot moved_is opened asked placed before whole sending, refl))
+              subst (λ x. Comes (with_vb_at (with_vb_at states t.stream.vb p) t.stream.vb x, marker_next name t.stream snapshot)) (sym taken.after_is)
+              (marker_so_far o snapshot moved_is opened asked placed before whole sending, refl)
 
           in_memory : (b : Bool) (o : Stream) → stream_at t.stream.id p.streams ≡ Some o → o.ask ≡ t.granted_is.ask → o.sync ≡ true → o.place ≡ t.granted_is.place → o.taken ≡ is_some t.granted_is.last
               → o.cursor ≡ b → Comes (after (next_by name t.stream None) states)
@@ -486,6 +483,7 @@ module _ (w : PlainWorld) (r : Chronicle) (l : ℕ) (link : PlainLink) (node : P
               idle = λ q. (idle_now (subst (λ h. FeederIn h p.role leader t.feed.given) e at.active) o none whole, takes_none w r l link node found states s g c a la t stated kept going f);
               saved = λ q. cc;
               state = λ q. cc;
+              unread = λ q. cc;
             },
             record { full = λ q. cc; some = λ q. cc; waiting = λ q. cc },
           ))

@@ -206,6 +206,7 @@ obeyed_turned dial (Verb.AtLink k (LinkVerb.Up wanted)) lines (Answer.Number n) 
 obeyed_turned dial (Verb.AtLink k (LinkVerb.Up wanted)) lines Answer.Ok l t e = refl
 obeyed_turned dial (Verb.AtLink k (LinkVerb.Up wanted)) lines (Answer.Pulled n why) l t e = refl
 obeyed_turned dial (Verb.AtLink k (LinkVerb.Up wanted)) lines (Answer.No why) l t e = refl
+obeyed_turned dial (Verb.AtLink k LinkVerb.Drop) lines said l t e = refl
 obeyed_turned dial (Verb.AtLink k LinkVerb.Cut) lines said l t e = refl
 obeyed_turned dial (Verb.Node n) lines said l t e = refl
 obeyed_turned dial (Verb.AtNode n what) lines said l t e = refl

@@ -71,6 +71,7 @@ still_obeyed dial (Verb.Link k m n v buffer takeover) lines said l t e = cc
 still_obeyed dial (Verb.AtLink k (LinkVerb.Up wanted)) lines said l t e = cc
 still_obeyed dial (Verb.AtLink k (LinkVerb.Down wanted)) lines said l t e = cc
 still_obeyed dial (Verb.AtLink k (LinkVerb.Pump wanted)) lines said l t e = cc
+still_obeyed dial (Verb.AtLink k LinkVerb.Drop) lines said l t e = refl
 still_obeyed dial (Verb.AtLink k LinkVerb.Cut) lines said l t e = refl
 still_obeyed dial (Verb.Node n) lines said l t e = refl
 still_obeyed dial (Verb.AtNode n what) lines said l t e = refl

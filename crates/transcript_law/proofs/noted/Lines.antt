@@ -15,6 +15,7 @@ use Rattle.transcript_law.specs.Chronicles.{after_group}
 use Rattle.transcript_law.specs.TakeoverNotes.{turns_feeder}
 use Rattle.transcript_law.specs.Tellings.{TellsOf, are_all, is_of_end, may_tell}
 use Rattle.vb_types.specs.declared.journal.FlushPart.TheVariants as part
+use Rattle.transcript_law.proofs.links.DropRows.{drop_among}
 
 -- ---- lines that give no vBucket a role, and leave the ends of links
 
@@ -48,6 +49,7 @@ vb_among w n v (VbVerb.Promote uuid) e = cc
 vb_among w n v VbVerb.Follow e = cc
 vb_among w n v VbVerb.Dead e = cc
 vb_among w n v VbVerb.Tick e = on_one w n (if_up (tick_line n v))
+vb_among w n v VbVerb.Trim e = on_one w n (if_up (admin_line n v AdminCall.Trim))
 vb_among w n v VbVerb.Seal e = on_one w n (if_up (admin_line n v AdminCall.Seal))
 vb_among w n v VbVerb.Take e = on_one w n (if_up (flush_line n v part.Take))
 vb_among w n v VbVerb.Save e = on_arm w n (on_node w n (save_line n v)) (on_one w n (if_up (save_line n v)))
@@ -65,6 +67,7 @@ line_among w number (Verb.AtClient n c what) e = on_one w n (if_up (client_verb_
 line_among w number (Verb.AtLink l (LinkVerb.Up wanted)) e = cc
 line_among w number (Verb.AtLink l (LinkVerb.Down wanted)) e = cc
 line_among w number (Verb.AtLink l (LinkVerb.Pump wanted)) e = cc
+line_among w number (Verb.AtLink l LinkVerb.Drop) e = drop_among w l
 line_among w number (Verb.AtLink l LinkVerb.Cut) e = cut_among_all w (row_at link_number l w.links)
 
 -- ---- `done`: the consumer of a link acknowledges more
@@ -153,6 +156,7 @@ module _ (w : PlainWorld) (r : Chronicle) (c : Cluster) (a : AgreesIn idle w r c
   vb_remain number n v VbVerb.Done t asked = done_remain w r c a (done_step w n v).1.events (all_roleless r (Verb.AtVb n v VbVerb.Done) (done_step w n v).1.events refl t) n v
   vb_remain number n v (VbVerb.Chain others) t asked = plain_remain number (Verb.AtVb n v (VbVerb.Chain others)) refl refl t
   vb_remain number n v VbVerb.Tick t asked = plain_remain number (Verb.AtVb n v VbVerb.Tick) refl refl t
+  vb_remain number n v VbVerb.Trim t asked = plain_remain number (Verb.AtVb n v VbVerb.Trim) refl refl t
   vb_remain number n v VbVerb.Seal t asked = plain_remain number (Verb.AtVb n v VbVerb.Seal) refl refl t
   vb_remain number n v VbVerb.Take t asked = plain_remain number (Verb.AtVb n v VbVerb.Take) refl refl t
   vb_remain number n v VbVerb.Save t asked = plain_remain number (Verb.AtVb n v VbVerb.Save) refl refl t
@@ -169,6 +173,7 @@ module _ (w : PlainWorld) (r : Chronicle) (c : Cluster) (a : AgreesIn idle w r c
   line_remain number (Verb.AtLink l (LinkVerb.Up wanted)) e t asked = cc
   line_remain number (Verb.AtLink l (LinkVerb.Down wanted)) e t asked = cc
   line_remain number (Verb.AtLink l (LinkVerb.Pump wanted)) e t asked = cc
+  line_remain number (Verb.AtLink l LinkVerb.Drop) e t asked = plain_remain number (Verb.AtLink l LinkVerb.Drop) refl refl t
   line_remain number (Verb.AtLink l LinkVerb.Cut) e t asked = plain_remain number (Verb.AtLink l LinkVerb.Cut) refl refl t
 
 pub apart_still : (line : Verb) → is_still line ≡ true → is_apart line ≡ true

@@ -41,6 +41,7 @@ may_branch r (Verb.AtVb n v VbVerb.Follow) n' v' u' p f h e = cc
 may_branch r (Verb.AtVb n v VbVerb.Dead) n' v' u' p f h e = cc
 may_branch r (Verb.AtVb n v (VbVerb.Chain others)) n' v' u' p f h e = refl
 may_branch r (Verb.AtVb n v VbVerb.Tick) n' v' u' p f h e = refl
+may_branch r (Verb.AtVb n v VbVerb.Trim) n' v' u' p f h e = refl
 may_branch r (Verb.AtVb n v VbVerb.Seal) n' v' u' p f h e = refl
 may_branch r (Verb.AtVb n v VbVerb.Take) n' v' u' p f h e = refl
 may_branch r (Verb.AtVb n v VbVerb.Save) n' v' u' p f h e = refl
@@ -55,6 +56,11 @@ may_branch r (Verb.AtClient n c ClientVerb.Hang) n' v' u' p f h e = refl
 may_branch r (Verb.AtLink l (LinkVerb.Up wanted)) n' v' u' p f h e = cc
 may_branch r (Verb.AtLink l (LinkVerb.Down wanted)) n' v' u' p f h e = cc
 may_branch r (Verb.AtLink l (LinkVerb.Pump wanted)) n' v' u' p f h e = cc
+may_branch r (Verb.AtLink l LinkVerb.Drop) n' v' u' p f h e = cuts (r.dial_of l)
+  where
+    cuts : (o : Option Dial) → may_tell (record r { dial_of = λ k. o }) (Verb.AtLink l LinkVerb.Drop) (Event.Branch n' v' u' p f h) ≡ false
+    cuts None = refl
+    cuts (Some dial) = refl
 may_branch r (Verb.AtLink l LinkVerb.Cut) n' v' u' p f h e = cuts (r.dial_of l)
   where
     cuts : (o : Option Dial) → may_tell (record r { dial_of = λ k. o }) (Verb.AtLink l LinkVerb.Cut) (Event.Branch n' v' u' p f h) ≡ false
@@ -128,6 +134,7 @@ module _ (w : PlainWorld) (r : Chronicle) (number : ℕ) where
   vb_named n v VbVerb.Dead t asked = let o = verb_step w number (Verb.AtVb n v VbVerb.Dead) in once_named (TurnsTo n v Role.Dead) o asked (turned_named n v Role.Dead o.1.events)
   vb_named n v (VbVerb.Chain others) t asked = plain_named (Verb.AtVb n v (VbVerb.Chain others)) refl t asked
   vb_named n v VbVerb.Tick t asked = plain_named (Verb.AtVb n v VbVerb.Tick) refl t asked
+  vb_named n v VbVerb.Trim t asked = plain_named (Verb.AtVb n v VbVerb.Trim) refl t asked
   vb_named n v VbVerb.Seal t asked = plain_named (Verb.AtVb n v VbVerb.Seal) refl t asked
   vb_named n v VbVerb.Take t asked = plain_named (Verb.AtVb n v VbVerb.Take) refl t asked
   vb_named n v VbVerb.Save t asked = plain_named (Verb.AtVb n v VbVerb.Save) refl t asked
@@ -152,6 +159,7 @@ module _ (w : PlainWorld) (r : Chronicle) (number : ℕ) where
   still_named (Verb.AtLink l (LinkVerb.Up wanted)) e t asked = cc
   still_named (Verb.AtLink l (LinkVerb.Down wanted)) e t asked = cc
   still_named (Verb.AtLink l (LinkVerb.Pump wanted)) e t asked = cc
+  still_named (Verb.AtLink l LinkVerb.Drop) e t asked = plain_named (Verb.AtLink l LinkVerb.Drop) refl t asked
   still_named (Verb.AtLink l LinkVerb.Cut) e t asked = plain_named (Verb.AtLink l LinkVerb.Cut) refl t asked
 
 beside_ungranting : (line : Event) → is_beside line ≡ true → is_ungranting line ≡ true

@@ -16,12 +16,14 @@ other_obeyed dial k (LinkVerb.Up wanted) lines (Answer.Number n) l t e = ap (λ 
 other_obeyed dial k (LinkVerb.Up wanted) lines Answer.Ok l t e = refl
 other_obeyed dial k (LinkVerb.Up wanted) lines (Answer.Pulled n why) l t e = refl
 other_obeyed dial k (LinkVerb.Up wanted) lines (Answer.No why) l t e = refl
+other_obeyed dial k LinkVerb.Drop lines said l t e = refl
 other_obeyed dial k LinkVerb.Cut lines said l t e = refl
 
 other_pumps : (k : ℕ) (what : LinkVerb) (l : ℕ) → (k == l) ≡ false → is_pump_of l (Verb.AtLink k what) ≡ false
 other_pumps k (LinkVerb.Pump wanted) l e = e
 other_pumps k (LinkVerb.Down wanted) l e = refl
 other_pumps k (LinkVerb.Up wanted) l e = refl
+other_pumps k LinkVerb.Drop l e = refl
 other_pumps k LinkVerb.Cut l e = refl
 
 -- each link is the line's, of which this is known, or another one that was there

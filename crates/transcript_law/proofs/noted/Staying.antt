@@ -53,6 +53,7 @@ may_role r (Verb.AtVb n v VbVerb.Follow) m u role e = cc
 may_role r (Verb.AtVb n v VbVerb.Dead) m u role e = cc
 may_role r (Verb.AtVb n v (VbVerb.Chain others)) m u role e = refl
 may_role r (Verb.AtVb n v VbVerb.Tick) m u role e = refl
+may_role r (Verb.AtVb n v VbVerb.Trim) m u role e = refl
 may_role r (Verb.AtVb n v VbVerb.Seal) m u role e = refl
 may_role r (Verb.AtVb n v VbVerb.Take) m u role e = refl
 may_role r (Verb.AtVb n v VbVerb.Save) m u role e = refl
@@ -67,6 +68,11 @@ may_role r (Verb.AtClient n c ClientVerb.Hang) m u role e = refl
 may_role r (Verb.AtLink l (LinkVerb.Up wanted)) m u role e = cc
 may_role r (Verb.AtLink l (LinkVerb.Down wanted)) m u role e = cc
 may_role r (Verb.AtLink l (LinkVerb.Pump wanted)) m u role e = cc
+may_role r (Verb.AtLink l LinkVerb.Drop) m u role e = cuts (r.dial_of l)
+  where
+    cuts : (o : Option Dial) → may_tell (record r { dial_of = λ k. o }) (Verb.AtLink l LinkVerb.Drop) (Event.Role m u role) ≡ false
+    cuts None = refl
+    cuts (Some dial) = refl
 may_role r (Verb.AtLink l LinkVerb.Cut) m u role e = cuts (r.dial_of l)
   where
     cuts : (o : Option Dial) → may_tell (record r { dial_of = λ k. o }) (Verb.AtLink l LinkVerb.Cut) (Event.Role m u role) ≡ false

@@ -48,6 +48,7 @@ takes_some other = true
 
 abbrev pub is_done : Verb → List Event → Answer → Bool
 is_done asked lines (answer.Pulled n why.WaitState) = false
+is_done asked lines (answer.Pulled n why.Disk) = false
 is_done (verb.AtVb n v vb_verb.Take) lines said = takes_some said
 is_done (verb.AtLink l (link_verb.Down wanted)) lines said = not (list_any is_taking lines)
 is_done other lines (answer.Pulled n why.Idle) = false
@@ -82,6 +83,7 @@ done_so chronicle asked lines (answer.Pulled n why.Full) e = shut asked e
     shut (verb.AtClient n c (client_verb.Pull wanted)) f = cc
     shut other f = tt
 done_so chronicle asked lines (answer.Pulled n why.WaitState) e = cc
+done_so chronicle asked lines (answer.Pulled n why.Disk) e = cc
 done_so chronicle asked lines other e = tt
 
 -- whether each has its line's number, tells of nothing where it was refused before its line was begun, of nothing else than its line may, and what its line asked for

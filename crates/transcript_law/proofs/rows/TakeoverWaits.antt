@@ -158,7 +158,7 @@ puts_active = (
     one_zero e = omega (arith, e)
 
 pub gives_up_alone : PumpSays heard (gets 0 0 Role.Dead ∷ []) 0 Why.Full → ⊥
-gives_up_alone l = ⊎_elim (λ some. some refl) (λ e. let z : Why.Full ≡ Why.WaitSaved = e in cc) (l.0.1 refl)
+gives_up_alone l = ⊎_elim (λ some. some refl) (λ later. ⊎_elim (λ e. let z : Why.Full ≡ Why.WaitSaved = e in cc) (λ e. let z : Why.Full ≡ Why.Disk = e in cc) later) (l.0.1 refl)
 
 -- a takeover's stream goes on
 takes_on_now : (r : Chronicle) → r.dial_of 1 ≡ Some own_dial → (r.takeover_of 1).dialed ≡ true → (g : Granted) → r.stream_of (StreamName.Link 1) 0 ≡ Some g → g.over ≡ false → TakesOn r 1 own_dial g

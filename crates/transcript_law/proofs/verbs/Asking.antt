@@ -286,6 +286,7 @@ module _ (w : PlainWorld) (n v : ℕ) where
   vb_asked ranged VbVerb.Follow = turned ranged Role.Replica AdminCall.Follow refl (role_follows n v) (follow_came AnyPosts tt (shut_at w n v) w n v (λ node e rs x same. tt) (λ vb e. refl))
   vb_asked ranged VbVerb.Dead = turned ranged Role.Dead AdminCall.Dead refl (role_dies n v) (dead_came AnyPosts tt (shut_at w n v) w n v (λ node e rs x same. tt) (λ vb e. refl))
   vb_asked ranged VbVerb.Tick = tt
+  vb_asked ranged VbVerb.Trim = tt
   vb_asked ranged VbVerb.Seal = tt
   vb_asked ranged VbVerb.Take = tt
   vb_asked ranged VbVerb.Save = tt

@@ -19,7 +19,7 @@ use Rattle.node_world.specs.{Dues.{due_at, due_in, due_of, is_counted}, Links.{d
 use Rattle.node_world.specs.declared.script_node.TheConstants.{MAX_CLIENTS}
 use Rattle.transcript_law.proofs.invariant.{Agreement.{Agrees, ClientAgrees}, Ranged.{IsRanged, NodeRangedIf}}
 use Rattle.transcript_law.proofs.lines.{Answering.{Tells, peer_so}, Broken.{Broke, So, bytes_break, left_asked, none_closes, posted_so}, Calm.{AnyAsk, AnyKind, any_job, asks_any, due_keeps}, DialTold.{down_so}, LinkTold.{pump_so}, SessionLines.{IsFor, IsKept, LeftBy, posted_at}}
-use Rattle.transcript_law.proofs.verbs.{NodeLines.{on_link_by, on_node_by}, Tellings.{Are, Tell, flush_steps}, Unclosed.{cut_unclosed, is_none_closing, log_unclosed, none_unclosed, pull_unclosed, show_unclosed, start_unclosed, stat_unclosed, take_unclosed}, Untaken.{ToldBy}}
+use Rattle.transcript_law.proofs.verbs.{NodeLines.{on_link_by, on_node_by}, Tellings.{Are, Tell, flush_steps}, Unclosed.{cut_unclosed, drop_unclosed, is_none_closing, log_unclosed, none_unclosed, pull_unclosed, show_unclosed, start_unclosed, stat_unclosed, take_unclosed}, Untaken.{ToldBy}}
 use Rattle.transcript_law.specs.{Breaks.{AllBreak, ClosesAsBroken, is_closing}, LinesTold.{Dial}, Tellings.{TellsOf, are_told, at_link, at_vb, is_none, is_of_end, is_of_pull, is_of_start, may_tell}, Feeding.{client_in}, Questions.{behind_frames}, StreamsTold.{ClientsKnown}}
 use Rattle.vb_calls.proofs.{Conduct.{after_always}, JobConduct.{after_job_always, always_bind_job}}
 use Rattle.vb_calls.specs.{Flushes.{part_job, role_job}, Jobs.{Ended, Job}, Programs.{AnyCall, AnyReply}}
@@ -446,6 +446,7 @@ module _ (w : PlainWorld) (r : Chronicle) (ranged : IsRanged w) (a : Agrees w r)
   vb_breaks number n v VbVerb.Follow t = role_break r.clients_at n v w AdminCall.Follow (follows r.clients_at n v) refl (first_cause (turn_causes w n v Role.Replica)) (good_at n) None
   vb_breaks number n v VbVerb.Dead t = role_break r.clients_at n v w AdminCall.Dead (dies r.clients_at n v) refl (first_cause (turn_causes w n v Role.Dead)) (good_at n) None
   vb_breaks number n v VbVerb.Save t = armed_break r.clients_at n w (on_node w n (save_line n v)) (on_break n (save_line n v) (λ node good. flush_break r.clients_at n v part.Save (placed v node) good)) None
+  vb_breaks number n v VbVerb.Trim t = unclosed (Verb.AtVb n v VbVerb.Trim) none_unclosed (verb_step w number (Verb.AtVb n v VbVerb.Trim)).1.events t
   vb_breaks number n v VbVerb.Seal t = unclosed (Verb.AtVb n v VbVerb.Seal) none_unclosed (verb_step w number (Verb.AtVb n v VbVerb.Seal)).1.events t
   vb_breaks number n v VbVerb.Take t = unclosed (Verb.AtVb n v VbVerb.Take) (take_unclosed r n v) (verb_step w number (Verb.AtVb n v VbVerb.Take)).1.events t
   vb_breaks number n v VbVerb.Stat t = unclosed (Verb.AtVb n v VbVerb.Stat) (stat_unclosed r n v) (verb_step w number (Verb.AtVb n v VbVerb.Stat)).1.events t
@@ -468,4 +469,5 @@ module _ (w : PlainWorld) (r : Chronicle) (ranged : IsRanged w) (a : Agrees w r)
   line_breaks number (Verb.AtLink l (LinkVerb.Up wanted)) t = up_break l wanted None
   line_breaks number (Verb.AtLink l (LinkVerb.Down wanted)) t = down_break r.clients_at w l wanted None
   line_breaks number (Verb.AtLink l (LinkVerb.Pump wanted)) t = pump_break r.clients_at w good_at l wanted None
+  line_breaks number (Verb.AtLink l LinkVerb.Drop) t = unclosed (Verb.AtLink l LinkVerb.Drop) (drop_unclosed (r.dial_of l) l) (verb_step w number (Verb.AtLink l LinkVerb.Drop)).1.events t
   line_breaks number (Verb.AtLink l LinkVerb.Cut) t = unclosed (Verb.AtLink l LinkVerb.Cut) (cut_unclosed (r.dial_of l) l) (verb_step w number (Verb.AtLink l LinkVerb.Cut)).1.events t

@@ -23,6 +23,7 @@ pub ends_of_line : (w : PlainWorld) (r : Chronicle) (number : ℕ) (line : Verb)
 ends_of_line w r number (Verb.AtLink l (LinkVerb.Up wanted)) b t later = up_ends_known w r number l wanted b later
 ends_of_line w r number (Verb.AtLink l (LinkVerb.Down wanted)) b t later = down_ends_known w r number l wanted b later
 ends_of_line w r number (Verb.AtLink l (LinkVerb.Pump frames)) b t later = pump_ends_known w r number l frames b later
+ends_of_line w r number (Verb.AtLink l LinkVerb.Drop) b t later = still_line_ends w r number (Verb.AtLink l LinkVerb.Drop) refl (all_beside r (Verb.AtLink l LinkVerb.Drop) (verb_step w number (Verb.AtLink l LinkVerb.Drop)).1.events refl t) later b.handed.ends
 ends_of_line w r number (Verb.AtLink l LinkVerb.Cut) b t later = still_line_ends w r number (Verb.AtLink l LinkVerb.Cut) refl (all_beside r (Verb.AtLink l LinkVerb.Cut) (verb_step w number (Verb.AtLink l LinkVerb.Cut)).1.events refl t) later b.handed.ends
 ends_of_line w r number (Verb.Link l m n v buffer takeover) b t later = dial_ends w r number l m n v buffer takeover b.handed.ends later
 ends_of_line w r number (Verb.Node n) b t later = still_line_ends w r number (Verb.Node n) refl (all_beside r (Verb.Node n) (verb_step w number (Verb.Node n)).1.events refl t) later b.handed.ends

@@ -90,6 +90,7 @@ pumps_plain r (Verb.AtLink l (LinkVerb.Pump wanted)) lines (Answer.Pulled n why)
 
     stops : (why : Why) → StopsFor (after_lines r lines) l why
     stops Why.WaitSaved = λ dial g x. none dial g x.takes_on
+    stops Why.Disk = λ dial g x. none dial g x.takes_on
     stops Why.Idle = none
     stops Why.All = tt
     stops Why.Full = tt
@@ -142,6 +143,7 @@ no_move r (Verb.AtLink l what) lines plain moves = by (r.dial_of l) what moves
     by (Some dial) (LinkVerb.Up wanted) m = m
     by (Some dial) (LinkVerb.Down wanted) m = ⊎_elim (λ x. never x.taking.given.link x.front x.by_link x.taking.given.takeover) (λ x. never x.heir.given.link x.front x.by_link x.heir.given.takeover) m
     by (Some dial) (LinkVerb.Pump wanted) m = never l [] refl m.takes_on.takeover
+    by (Some dial) LinkVerb.Drop m = m
     by (Some dial) LinkVerb.Cut m = m
 no_move r other lines plain moves = moves
 
@@ -166,6 +168,7 @@ at_level None l what (Event.Role n v Role.Active) e = cc
 at_level (Some dial) l (LinkVerb.Up wanted) (Event.Role n v Role.Active) e = cc
 at_level (Some dial) l (LinkVerb.Down wanted) (Event.Role n v Role.Active) e = cc
 at_level (Some dial) l (LinkVerb.Pump frames) (Event.Role n v Role.Active) e = cc
+at_level (Some dial) l LinkVerb.Drop (Event.Role n v Role.Active) e = cc
 at_level (Some dial) l LinkVerb.Cut (Event.Role n v Role.Active) e = cc
 at_level dial l what other e = refl
 
@@ -219,6 +222,7 @@ vb_made r n v VbVerb.Follow lines said t a = once_made (TurnsTo n v Role.Replica
 vb_made r n v VbVerb.Dead lines said t a = once_made (TurnsTo n v Role.Dead) lines said (turn_made n v Role.Dead lines (λ e. cc)) a
 vb_made r n v (VbVerb.Chain others) lines said t a = made_level None lines (level_told r (Verb.AtVb n v (VbVerb.Chain others)) (stays_level r n v (VbVerb.Chain others) (λ m u. refl)) lines t)
 vb_made r n v VbVerb.Tick lines said t a = made_level None lines (level_told r (Verb.AtVb n v VbVerb.Tick) (stays_level r n v VbVerb.Tick (λ m u. refl)) lines t)
+vb_made r n v VbVerb.Trim lines said t a = made_level None lines (level_told r (Verb.AtVb n v VbVerb.Trim) (stays_level r n v VbVerb.Trim (λ m u. refl)) lines t)
 vb_made r n v VbVerb.Seal lines said t a = made_level None lines (level_told r (Verb.AtVb n v VbVerb.Seal) (stays_level r n v VbVerb.Seal (λ m u. refl)) lines t)
 vb_made r n v VbVerb.Take lines said t a = made_level None lines (level_told r (Verb.AtVb n v VbVerb.Take) (stays_level r n v VbVerb.Take (λ m u. refl)) lines t)
 vb_made r n v VbVerb.Save lines said t a = made_level None lines (level_told r (Verb.AtVb n v VbVerb.Save) (stays_level r n v VbVerb.Save (λ m u. refl)) lines t)

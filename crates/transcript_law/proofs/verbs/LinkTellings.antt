@@ -15,7 +15,7 @@ use Rattle.dcp_consumer.specs.declared.handshake.Dialed.{Dialed}
 use Rattle.dcp_producer.specs.Frames.{act_sent}
 use Rattle.node_core.specs.Dials.{DialResult, dial_bytes}
 use Rattle.node_world.proofs.Keeping.{fed_dialed}
-use Rattle.node_world.specs.{Arms.{fired_by, placed}, Links.{dial_of, left_unless, with_down}, Power.{after_broken, disk_end, down_lines, is_broken_answer, with_broken}, World.{cut_step, down_in, down_outcome, down_step, link_verb_step, relinked}, Worlds.{arm_in}}
+use Rattle.node_world.specs.{Arms.{fired_by, placed}, Links.{dial_of, drop_at, left_unless, with_down}, Power.{after_broken, disk_end, down_lines, is_broken_answer, with_broken}, World.{cut_step, down_in, down_outcome, down_step, link_verb_step, relinked}, Worlds.{arm_in}}
 use Rattle.node_world.specs.declared.arm.Fired.{Fired}
 use Rattle.node_world.specs.declared.arm.Fired.TheVariants as fired
 use Rattle.transcript_law.proofs.{invariant.{Agreement.{Agrees, IsLink}, LinkRows.{found_is_link}, Ranged.{IsRanged, NodeRanged, NodeRangedIf}}, lines.{DialTold.{KeepsSo, down_so}, LinkTold.{pump_so, up_so}}}
@@ -56,6 +56,9 @@ module _ (w : PlainWorld) (r : Chronicle) (a : Agrees w r) (l : ℕ) where
       tell_all q (is_of_end r) (λ m e. cc) (up_at wanted link node).1.1.events
       (up_so q d (λ v ask high log said. passes link is e (λ s. q (Event.Asked s d.node v ask high log said)) (λ i. eq-eqb l l refl i || false)) (λ v member seq. passes link is e (λ s. q (Event.Counted s d.node v member seq)) (λ i. eq-eqb l l refl i || false))
       (λ line c. later_of (is_of_up l line) (is_of_clients (producer_node link) line) (of_clients (producer_node link) line c)) wanted link node here.own refl))
+
+  pub drop_tells : Tells (r.dial_of l) LinkVerb.Drop (on_link w l producer_node drop_at).1.events
+  drop_tells = on_open LinkVerb.Drop producer_node drop_at (λ link is e node at. refl)
 
   pub cut_tells : Tells (r.dial_of l) LinkVerb.Cut (cut_step w l).1.events
   cut_tells = by (row_at link_number l w.links) refl

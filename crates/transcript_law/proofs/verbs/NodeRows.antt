@@ -16,6 +16,8 @@ use Rattle.node_core.specs.Clients.{new_client}
 use Rattle.transcript_law.proofs.indexers.{Closing.{hang_line_goes, open_line_goes}, Pulled.{pull_goes}}
 use Rattle.vbucket.proofs.Ending.{takes_exactly}
 use Rattle.vbucket.specs.Laws.{IsTimely}
+use Rattle.node_world.specs.Links.{drop_at}
+use Rattle.transcript_law.proofs.{ends.Open.{drop_answered}, links.DropRows.{drop_fed, drop_ranged, drop_still}, links.Dropped.{drop_goes}, verbs.LinkTellings.{drop_tells}}
 
 -- ---- nodes
 
@@ -169,6 +171,18 @@ link_row_of w l (LinkVerb.Pump frames) = let came : Outcome = pump_step w l fram
   told = λ r fits t. (pump_answered w r t.agrees t.linked t.ranged l frames, pump_spared w l frames t.ranged);
   goes = λ r fits ranged calm begins a. told_goes (Verb.AtLink l (LinkVerb.Pump frames)) r came (pump_came take_snapshots stays steady w r l frames a ranged calm.0 (pump_known w r begins)).goes;
 }
+link_row_of w l LinkVerb.Drop = let came : Outcome = on_link w l producer_node drop_at in
+    let says : Says Anything (Same w) came = on_link_says Anything w l producer_node drop_at (λ why. tt) (λ link node. (tt, λ why e s. cc)) in record {
+      ranged = λ fits r. on_link_ranged w l producer_node drop_at r (λ link n node here. drop_ranged n link node here);
+      fed = λ r here calm h a fine kept. drop_fed w l fine;
+      rests = λ r here h a all. weaker came.0 (link_still w here all l producer_node drop_at (λ link node at there. drop_still link node there));
+      keeps = λ rests. says.1;
+      bound = λ r a rule. over w r l _ came.1 a rule (closed_link_refused w l producer_node drop_at);
+      entered = λ before r old. old;
+      tells = λ r t. drop_tells w r t.agrees l;
+      told = λ r fits t. (drop_answered w r t.agrees t.linked l, on_link_by (λ o. Spared o.1) w l producer_node drop_at refl (λ link found. refl) (λ link node found known. refl));
+      goes = λ r fits ranged calm begins a. told_goes (Verb.AtLink l LinkVerb.Drop) r came (drop_goes stays w r l a);
+    }
 link_row_of w l LinkVerb.Cut = let found : Option PlainLink = row_at link_number l w.links in
     let says : Says IsOk (Same w) (cut_outcome w found) = elim found as (λ o. Says IsOk (Same w) (cut_outcome w o)) [ None ↦ (tt, λ why e s. (unchanged w, refl)) | Some link ↦ (tt, λ why e s. cc) ] in record {
       ranged = λ fits r. elim found as (λ o. IsRanged (cut_outcome w o).0) [ None ↦ r | Some link ↦ unlinked_ranged w link r ];

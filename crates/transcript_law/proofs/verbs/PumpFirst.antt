@@ -1,4 +1,4 @@
--- behind a vBucket that was given up a frame is put, unless what is to be put is to be saved first
+-- behind a vBucket that was given up a frame is put, unless what is to be put comes later
 use Rattle.std.specs.Prelude.{◌≡◌, ◌⊎◌, ◌∷◌, ◌++◌}
 use Rattle.transcript_law.proofs.Words.{ℕ, zero, suc, Bool, List, [], true, false, refl, ap, sym, ◌∙◌, subst, inl, inr, ⊎_elim, Some, None, Option, StaysSound, TakesSnapshots, Turn, More, Stop, go_on, repeated, after, after_bind, row_at, States}
 use Rattle.transcript_law.proofs.Words.{Chronicle, Granted, Halt, PlainLink, PlainNode, PlainWorld, Role, Served, Why, after_lines, link_number, producer_node, why_of}
@@ -8,7 +8,7 @@ use Rattle.transcript_law.proofs.links.{PumpWorlds.{Halted, LinkKnown, SoFar, St
 use Rattle.transcript_law.proofs.verbs.PumpFrames.{first, first_so_far, known_of, made, no_pulled, turns}
 use Rattle.transcript_law.proofs.Words.{Answer, Cause, Done, Outcome, PullResult, frames_put, link_outcome, node_outcome, on_link, peer_of, peer_pulled, pull_result, pulled, pump_at, pump_result, refusal, with_link, with_node_at}
 use Rattle.transcript_law.proofs.invariant.LinkRows.{found_is_link}
-use Rattle.transcript_law.specs.{Heirs.{IsHanded, IsOffered, TakesOn}, LinesTold.{Dial}, TakeoverAnswers.{Awaits}}
+use Rattle.transcript_law.specs.{Heirs.{IsHanded, IsOffered, TakesOn}, LinesTold.{Dial}, TakeoverAnswers.{Awaits, ComesLater}}
 
 -- more lines are no fewer
 is_none : {A : Type 0} → List A → Bool
@@ -42,10 +42,10 @@ module _ (takes : TakesSnapshots) (stays : StaysSound) (w : PlainWorld) (r : Chr
   abbrev l : ℕ
   l = link_number link
 
-  -- lines were told, or what is to be put is to be saved first
+  -- lines were told, or what is to be put comes later
   abbrev pub PutsOne : Turn Pulling (Served × Halt) → Type 0
   PutsOne (More p) = p.served.events ≡ [] → ⊥
-  PutsOne (Stop stopped) = (why_of stopped.1 ≡ Why.WaitSaved) ⊎ (stopped.0.events ≡ [] → ⊥)
+  PutsOne (Stop stopped) = ComesLater (why_of stopped.1) ⊎ (stopped.0.events ≡ [] → ⊥)
 
   -- behind lines there are lines
   grows : (states : States) (s : Served) (g : SoFar w r l link node states s) → (s.events ≡ [] → ⊥) → PutsOne (after (one_frame (pull_of s none_quiet)) states).1
@@ -62,9 +62,10 @@ module _ (takes : TakesSnapshots) (stays : StaysSound) (w : PlainWorld) (r : Chr
     abbrev start_so_far : SoFar w r l link node node.vbs start
     start_so_far = first_so_far takes stays w r link node found a known noted
 
-    -- no frame is put where it is to be saved first
-    stopped_for : (st : Served × Halt) (why : Why) → why_of st.1 ≡ why → st.0.events ≡ [] → Stopped (after_lines r st.0.events) l why → Halted st.0.end why → (why ≡ Why.Full → lets_through start.end ≡ false) → why ≡ Why.WaitSaved
-    stopped_for st Why.WaitSaved is none x h full = refl
+    -- no frame is put where it comes later
+    stopped_for : (st : Served × Halt) (why : Why) → why_of st.1 ≡ why → st.0.events ≡ [] → Stopped (after_lines r st.0.events) l why → Halted st.0.end why → (why ≡ Why.Full → lets_through start.end ≡ false) → ComesLater why
+    stopped_for st Why.WaitSaved is none x h full = inl refl
+    stopped_for st Why.Disk is none x h full = inr refl
     stopped_for st Why.All is none x h full = absurd (h.some refl)
     stopped_for st Why.Full is none x h full = let z : true ≡ false = sym free ∙ full refl in cc
     stopped_for st Why.Idle is none x h full = absurd ((x.idle refl).1 rest.dial rest.stream (subst (λ es. TakesOn (after_lines r es) l rest.dial rest.stream) (sym none) rest.takes_on))
@@ -91,18 +92,18 @@ module _ (takes : TakesSnapshots) (stays : StaysSound) (w : PlainWorld) (r : Chr
 
 -- ---- on a link
 
--- lines were told, or what is to be put is to be saved first
+-- lines were told, or what is to be put comes later
 abbrev pub IsFirst : Outcome → Type 0
-IsFirst o = (n : ℕ) (why : Why) → o.1.answer ≡ Answer.Pulled n why → (o.1.events ≡ [] → ⊥) ⊎ (why ≡ Why.WaitSaved)
+IsFirst o = (n : ℕ) (why : Why) → o.1.answer ≡ Answer.Pulled n why → (o.1.events ≡ [] → ⊥) ⊎ ComesLater why
 
 module _ (takes : TakesSnapshots) (stays : StaysSound) (w : PlainWorld) (r : Chronicle) where
   -- of the states and what is told of the line
   abbrev IsFirstOf : States × PullResult → Type 0
-  IsFirstOf y = (n : ℕ) (why : Why) → y.1.answer ≡ Answer.Pulled n why → (y.1.events ≡ [] → ⊥) ⊎ (why ≡ Why.WaitSaved)
+  IsFirstOf y = (n : ℕ) (why : Why) → y.1.answer ≡ Answer.Pulled n why → (y.1.events ≡ [] → ⊥) ⊎ ComesLater why
 
   says_first : (link : PlainLink) (node : PlainNode) (found : row_at link_number (link_number link) w.links ≡ Some link) (states : States) (x : Turn Pulling (Served × Halt)) → PutsOne takes stays w r link node found x → IsFirstOf (known_of takes stays w r link node found (after (pulled x) states))
   says_first link node found states (More p) some n why e = inl some
-  says_first link node found states (Stop st) some n why e = let is : why_of st.1 ≡ why = cc in ⊎_elim (λ z. inr (sym is ∙ z)) (λ z. inl z) some
+  says_first link node found states (Stop st) some n why e = let is : why_of st.1 ≡ why = cc in ⊎_elim (λ z. inr (subst ComesLater is z)) (λ z. inl z) some
 
   node_first : (link : PlainLink) (node : PlainNode) (found : row_at link_number (link_number link) w.links ≡ Some link) (a : Agrees w r) (known : w.nodes (producer_node link) ≡ Some node) (noted : LinkKnown r r link) (rest : SendsRest r (link_number link)) → lets_through link.server ≡ true → (k : ℕ)
       → IsFirstOf (after (peer_pulled (suc k) (peer_of link)) node.vbs)

@@ -112,7 +112,7 @@ module _ (takes : TakesSnapshots) (stays : StaysSound) where
       pub ends : PutsSo r link y.1.out
 
     all_stopped : (q : Chronicle) → Stopped q l Why.All
-    all_stopped q = record { idle = λ e. cc; saved = λ e. cc; state = λ e. cc }
+    all_stopped q = record { idle = λ e. cc; saved = λ e. cc; state = λ e. cc; unread = λ e. cc }
 
     waits_from : (events : List Event) (end : PlainProducer) (why : Why) → Halted end why → why ≡ Why.WaitState → Stepped l link.server.streams events end.streams → (list_any (is_state_of l) events ≡ true) ⊎ Waited link.server.streams
     waits_from events end why halted is stepped =

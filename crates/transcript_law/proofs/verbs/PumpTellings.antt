@@ -7,7 +7,7 @@ use Rattle.takeover.specs.declared.give_up.GiveStep.TheVariants.{AwaitActive, Aw
 use Rattle.transcript_law.proofs.invariant.{Agreement.{Agrees, GoesOn, IsLink, LinkAgrees}, LinkRows.{found_is_link, row_found}, Ranged.{IsRanged}}
 use Rattle.transcript_law.proofs.{lines.Lines.{after_more, lawful_more}, lines.Pulling.{lets_through}, links.PumpWorlds.{AllKnown, HasStep, Stopped, Waited, step_is}, links.Yields.{stream_left}}
 use Rattle.transcript_law.proofs.verbs.{NodeLines.{as_told}, PumpFirst.{IsFirst, frames_first}, PumpFrames.{PutLink, PutsOn, all_state, frames_on, no_pulled}, Pumping.{Gave, GaveFirst, NoneYields, NotYields, YieldLink, gave, hands_behind}, Settling.{Steady}, Tellings.{tell_all}}
-use Rattle.transcript_law.specs.{LawfulAnswers.{AllDurable}, TakeoverAnswers.{HandsOver, PumpsOn, PutsBehind, StopsFor}, TakeoverLines.{TakeoverFrom}, TakeoverNotes.{is_grant_of, is_state_of, turns_feeder}, Takeovers.{GivesUp, MovesAt, TellsOnly}, Tellings.{are_all, are_told, at_link, is_of_clients, is_of_end, is_of_pump}}
+use Rattle.transcript_law.specs.{LawfulAnswers.{AllDurable}, TakeoverAnswers.{ComesLater, HandsOver, PumpsOn, PutsBehind, StopsFor}, TakeoverLines.{TakeoverFrom}, TakeoverNotes.{is_grant_of, is_state_of, turns_feeder}, Takeovers.{GivesUp, MovesAt, TellsOnly}, Tellings.{are_all, are_told, at_link, is_of_clients, is_of_end, is_of_pump}}
 use Rattle.transcript_law.proofs.{noted.Groups.{dial_at}, noted.Known.{Remains}, verbs.PumpOthers.{WireSame, YieldBeside, yield_wire, alone_remains, beside_remains, no_client_grants, no_grants, no_roles, yield_kept}, invariant.Carried.{numbers}, invariant.Noted.{AllKept, KeptLink}}
 use Rattle.transcript_law.proofs.{lines.Takeovers.{lines_takeovers}, links.PumpEnds.{PutsSo, ends_as}}
 use Rattle.transcript_law.specs.LinesTold.{TakeoverKnown}
@@ -50,9 +50,9 @@ turns_alone r l es more none own turned =
     let z : false ≡ true = sym (no_feeder l (r.dial_of l) more own) ∙ turned_more in cc
 
 -- frames that were put are counted
-counts_some : (l : ℕ) (lines : List Event) (n : ℕ) (why : Why) → are_all (is_of_pump l) lines ≡ true → n ≡ frames_in_lines lines → (lines ≡ [] → ⊥) ⊎ (why ≡ Why.WaitSaved) → (n ≢ 0) ⊎ (why ≡ Why.WaitSaved)
+counts_some : (l : ℕ) (lines : List Event) (n : ℕ) (why : Why) → are_all (is_of_pump l) lines ≡ true → n ≡ frames_in_lines lines → (lines ≡ [] → ⊥) ⊎ ComesLater why → (n ≢ 0) ⊎ ComesLater why
 counts_some l lines n why own told (inl some) = inl (λ zero_is. some_frames l lines own some (sym told ∙ zero_is))
-counts_some l lines n why own told (inr saved) = inr saved
+counts_some l lines n why own told (inr later) = inr later
 
 -- ---- streams that wait for the answer to a state
 
@@ -328,6 +328,7 @@ module _ (takes : TakesSnapshots) (stays : StaysSound) (steady : Steady) (w : Pl
 -- why it stopped, as it is said
 stops_for : (q : Chronicle) (l : ℕ) (why : Why) → Stopped q l why → StopsFor q l why
 stops_for q l Why.WaitSaved x = x.saved refl
+stops_for q l Why.Disk x = absurd (x.unread refl)
 stops_for q l Why.Idle x = (x.idle refl).1
 stops_for q l Why.All x = tt
 stops_for q l Why.Full x = tt

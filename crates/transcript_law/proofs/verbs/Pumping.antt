@@ -329,3 +329,7 @@ module _ (takes : TakesSnapshots) (stays : StaysSound) where
   -- one that is idle left nothing to put
   pub pump_leaves : (steady : Steady) (w : PlainWorld) (r : Chronicle) (l frames n : ℕ) → Agrees w r → IsRanged w → AllDurable r.made → AllKnown w r → (let x = pump_step w l frames in x.1.answer ≡ Answer.Pulled n Why.Idle → AllPut (after_lines r x.1.events) l)
   pump_leaves steady w r l frames n a ranged calm all e = (((pump_came steady w r l frames a ranged calm all).stops n Why.Idle e).idle refl).0
+
+  -- and none ends for a journal yet
+  pub pump_reads : (steady : Steady) (w : PlainWorld) (r : Chronicle) (l frames n : ℕ) → Agrees w r → IsRanged w → AllDurable r.made → AllKnown w r → (pump_step w l frames).1.answer ≡ Answer.Pulled n Why.Disk → ⊥
+  pump_reads steady w r l frames n a ranged calm all e = ((pump_came steady w r l frames a ranged calm all).stops n Why.Disk e).unread refl

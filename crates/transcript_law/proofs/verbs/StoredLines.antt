@@ -367,6 +367,10 @@ down_test None l wanted line e = none_test line e
 down_test (Some dial) l wanted (Event.Changed m u uuid change) e = e
 down_test (Some dial) l wanted other e = refl
 
+drop_test : (dial : Option Dial) (l : ℕ) (line : Event) → at_link dial l LinkVerb.Drop line ≡ true → is_no_change line ≡ true
+drop_test None l line e = none_test line e
+drop_test (Some dial) l line e = none_test line e
+
 cut_test : (dial : Option Dial) (l : ℕ) (line : Event) → at_link dial l LinkVerb.Cut line ≡ true → is_no_change line ≡ true
 cut_test None l line e = none_test line e
 cut_test (Some dial) l (Event.Changed m u uuid change) e = e
@@ -380,6 +384,7 @@ vb_next w r number n v (VbVerb.Promote uuid) t = promote_next n v w uuid (first_
 vb_next w r number n v VbVerb.Follow t = follow_next n v w (first_cause (turn_causes w n v Role.Replica))
 vb_next w r number n v VbVerb.Dead t = dead_next n v w (first_cause (turn_causes w n v Role.Dead))
 vb_next w r number n v VbVerb.Tick t = on_next w n (tick_line n v) (tick_next n v)
+vb_next w r number n v VbVerb.Trim t = no_change r (Verb.AtVb n v VbVerb.Trim) none_test (verb_step w number (Verb.AtVb n v VbVerb.Trim)).1.events t
 vb_next w r number n v VbVerb.Seal t = no_change r (Verb.AtVb n v VbVerb.Seal) none_test (verb_step w number (Verb.AtVb n v VbVerb.Seal)).1.events t
 vb_next w r number n v VbVerb.Take t = no_change r (Verb.AtVb n v VbVerb.Take) (take_test r n v) (verb_step w number (Verb.AtVb n v VbVerb.Take)).1.events t
 vb_next w r number n v VbVerb.Save t = no_change r (Verb.AtVb n v VbVerb.Save) (save_test r n v) (verb_step w number (Verb.AtVb n v VbVerb.Save)).1.events t
@@ -477,4 +482,5 @@ line_next w r number (Verb.AtClient n c (ClientVerb.Pull wanted)) t = no_change 
 line_next w r number (Verb.AtClient n c ClientVerb.Hang) t = no_change r (Verb.AtClient n c ClientVerb.Hang) none_test (verb_step w number (Verb.AtClient n c ClientVerb.Hang)).1.events t
 line_next w r number (Verb.AtLink l (LinkVerb.Down wanted)) t = down_next r l wanted (verb_step w number (Verb.AtLink l (LinkVerb.Down wanted))).1.events t
 line_next w r number (Verb.AtLink l (LinkVerb.Pump frames)) t = pump_next w l frames
+line_next w r number (Verb.AtLink l LinkVerb.Drop) t = no_change r (Verb.AtLink l LinkVerb.Drop) (drop_test (r.dial_of l) l) (verb_step w number (Verb.AtLink l LinkVerb.Drop)).1.events t
 line_next w r number (Verb.AtLink l LinkVerb.Cut) t = no_change r (Verb.AtLink l LinkVerb.Cut) (cut_test (r.dial_of l) l) (verb_step w number (Verb.AtLink l LinkVerb.Cut)).1.events t

@@ -31,6 +31,10 @@ pub pull_unclosed : (n c : ℕ) (line : Event) → is_of_pull n c line ≡ true 
 pull_unclosed n c (Event.Closed m d) e = e
 pull_unclosed n c other e = refl
 
+pub drop_unclosed : (dial : Option Dial) (l : ℕ) (line : Event) → at_link dial l LinkVerb.Drop line ≡ true → is_none_closing line ≡ true
+drop_unclosed None l line e = none_unclosed line e
+drop_unclosed (Some dial) l line e = none_unclosed line e
+
 pub cut_unclosed : (dial : Option Dial) (l : ℕ) (line : Event) → at_link dial l LinkVerb.Cut line ≡ true → is_none_closing line ≡ true
 cut_unclosed None l line e = none_unclosed line e
 cut_unclosed (Some dial) l (Event.Closed m c) e = e

@@ -3,13 +3,14 @@ use Rattle.std.specs.Prelude.{◌≡◌, ◌<◌, ◌≤◌, ◌∷◌}
 use Rattle.transcript_law.proofs.Words.{ℕ, Bool, true, false, List, [], length, refl, ap, sym, ◌∙◌, subst, arith, nat_tests, Option, Some, None, cond, is_some, Answer, Cause, Chronicle, ClientVerb, Event, LinkVerb, Plain, PlainNode, PlainWorld, Span, States, Verb, VbCall, VbVerb, Why}
 use Rattle.transcript_law.proofs.Words.{after_job, after_lines, list_any, on_node, rises_in, take_snapshots, verb_step, with_vb_at, IsIn, stays, wholes}
 use Rattle.transcript_law.proofs.{disks.Flushed.{flush_came}, invariant.Agreement.{Agrees, VbAgrees, all_rise}, invariant.JobSteps.{call_on, put_found}, invariant.Ranged.{IsRanged, NodeRanged, NodeRangedIf}, invariant.Seats.{seat}}
-use Rattle.transcript_law.proofs.{verbs.FlushLines.{There, disk, mine, some, there_at_vb}, verbs.NodeLines.{on_node_by}, verbs.DownLine.{down_leaves}, verbs.Pumping.{pump_leaves}, verbs.Settling.{steady}, noted.{Joint.{Handed, noted_of}, Pumped.{pump_known}}}
+use Rattle.transcript_law.proofs.{verbs.FlushLines.{There, disk, mine, some, there_at_vb}, verbs.NodeLines.{on_node_by}, verbs.DownLine.{down_leaves}, verbs.Pumping.{pump_leaves, pump_reads}, verbs.Settling.{steady}, noted.{Joint.{Handed, noted_of}, Pumped.{pump_known}}}
 use Rattle.transcript_law.specs.{LawfulAnswers.{IsStill}, TakeoverAnswers.{StateAwaited}}
+use Rattle.transcript_law.specs.Unread.{StopsForDisk}
 use Rattle.transcript_law.specs.Undone.{AllTaken, IsShutFor, LeavesNone, NoneToAcknowledge, NoneToPut, NoneToTake, WaitsForOne, is_taking}
 use Rattle.{node_core.specs.Flushing.{flush_at, flush_result}, node_world.specs.Nodes.{flush_line}, std.specs.List.{find}, std.specs.Prelude.{nat_lt}}
 use Rattle.vb_calls.specs.{Flushes.{batch_of_reply, take_job, taken_job, took}, Flushing.{batch_of, flush_from, unflushed_span}, Jobs.{Ended}, Shelves.{Flush, Idle, Out, Written, Shelves, with_shelf_at}, Spans.{all_spans}}
 use Rattle.vb_types.specs.declared.journal.FlushPart.TheVariants as part
-use Rattle.transcript_law.proofs.indexers.Pulled.{pull_leaves, pull_shuts, pull_waits}
+use Rattle.transcript_law.proofs.indexers.Pulled.{pull_leaves, pull_reads, pull_shuts, pull_waits}
 use Rattle.vbucket.proofs.Ending.{takes_exactly}
 use Rattle.vbucket.specs.Laws.{Follow}
 
@@ -69,13 +70,14 @@ take_leaves w r n v ranged a = on_node_by (λ x. x.1.answer ≡ Answer.Number 0 
         came_none w r n v t (subst (NodeRangedIf n) t.at (ranged n)) t.shelf.flush refl (sym (ap (λ y. y.1.answer) (flush_came n v part.Take node.vbs node.shelves vb (Some t.shelf) e t.kept)) ∙ z)
 
 -- of each line
-by_answer : (r : Chronicle) (line : Verb) (lines : List Event) (said : Answer) → (said ≡ Answer.Number 0 → NoneToTake r line) → ((n : ℕ) → said ≡ Answer.Number n → list_any is_taking lines ≡ true → NoneToAcknowledge (after_lines r lines) line) → ((n : ℕ) → said ≡ Answer.Pulled n Why.Idle → NoneToPut (after_lines r lines) line) → ((n : ℕ) → said ≡ Answer.Pulled n Why.WaitSaved → WaitsForOne (after_lines r lines) line) → ((n : ℕ) → said ≡ Answer.Pulled n Why.Full → IsShutFor (after_lines r lines) line) → ((n : ℕ) → said ≡ Answer.Pulled n Why.WaitState → StateAwaited r line lines) → LeavesNone r line lines said
-by_answer r line lines (Answer.Number n) taken acked put waits full states = (λ z. taken (ap Answer.Number z), acked n refl)
-by_answer r line lines (Answer.Pulled n Why.Idle) taken acked put waits full states = put n refl
-by_answer r line lines (Answer.Pulled n Why.WaitSaved) taken acked put waits full states = waits n refl
-by_answer r line lines (Answer.Pulled n Why.Full) taken acked put waits full states = full n refl
-by_answer r line lines (Answer.Pulled n Why.WaitState) taken acked put waits full states = states n refl
-by_answer r line lines other taken acked put waits full states = tt
+by_answer : (r : Chronicle) (line : Verb) (lines : List Event) (said : Answer) → (said ≡ Answer.Number 0 → NoneToTake r line) → ((n : ℕ) → said ≡ Answer.Number n → list_any is_taking lines ≡ true → NoneToAcknowledge (after_lines r lines) line) → ((n : ℕ) → said ≡ Answer.Pulled n Why.Idle → NoneToPut (after_lines r lines) line) → ((n : ℕ) → said ≡ Answer.Pulled n Why.WaitSaved → WaitsForOne (after_lines r lines) line) → ((n : ℕ) → said ≡ Answer.Pulled n Why.Full → IsShutFor (after_lines r lines) line) → ((n : ℕ) → said ≡ Answer.Pulled n Why.WaitState → StateAwaited r line lines) → ((n : ℕ) → said ≡ Answer.Pulled n Why.Disk → StopsForDisk (after_lines r lines) line) → LeavesNone r line lines said
+by_answer r line lines (Answer.Number n) taken acked put waits full states reads = (λ z. taken (ap Answer.Number z), acked n refl)
+by_answer r line lines (Answer.Pulled n Why.Idle) taken acked put waits full states reads = put n refl
+by_answer r line lines (Answer.Pulled n Why.WaitSaved) taken acked put waits full states reads = waits n refl
+by_answer r line lines (Answer.Pulled n Why.Full) taken acked put waits full states reads = full n refl
+by_answer r line lines (Answer.Pulled n Why.WaitState) taken acked put waits full states reads = states n refl
+by_answer r line lines (Answer.Pulled n Why.Disk) taken acked put waits full states reads = reads n refl
+by_answer r line lines other taken acked put waits full states reads = tt
 
 none_to_take : (w : PlainWorld) (number : ℕ) (line : Verb) (r : Chronicle) → IsRanged w → Agrees w r → (verb_step w number line).1.answer ≡ Answer.Number 0 → NoneToTake r line
 none_to_take w number (Verb.AtVb n v VbVerb.Take) r ranged a z = take_leaves w r n v ranged a z
@@ -98,6 +100,11 @@ shut_for : (w : PlainWorld) (number : ℕ) (line : Verb) (r : Chronicle) → IsR
 shut_for w number (Verb.AtClient n c (ClientVerb.Pull frames)) r ranged a k z = pull_shuts take_snapshots takes_exactly w r n c frames k ranged a z
 shut_for w number other r ranged a n z = tt
 
+stops_for_disk : (w : PlainWorld) (number : ℕ) (line : Verb) (r : Chronicle) → IsRanged w → IsStill r → Handed w r → Agrees w r → (n : ℕ) → (let x = verb_step w number line in x.1.answer ≡ Answer.Pulled n Why.Disk → StopsForDisk (after_lines r x.1.events) line)
+stops_for_disk w number (Verb.AtLink l (LinkVerb.Pump frames)) r ranged calm h a n z = absurd (pump_reads take_snapshots stays steady w r l frames n a ranged calm.0 (pump_known w r h) z)
+stops_for_disk w number (Verb.AtClient n c (ClientVerb.Pull frames)) r ranged calm h a k z = absurd (pull_reads take_snapshots takes_exactly w r n c frames k ranged a z)
+stops_for_disk w number other r ranged calm h a n z = tt
+
 pub leaves_none : (w : PlainWorld) (number : ℕ) (line : Verb) (r : Chronicle) → IsRanged w → IsStill r → Handed w r → Agrees w r
     → (let x = (verb_step w number line).1 in ((n : ℕ) → x.answer ≡ Answer.Pulled n Why.WaitState → StateAwaited r line x.events) → LeavesNone r line x.events x.answer)
-leaves_none w number line r ranged calm h a waits = let x = verb_step w number line in by_answer r line x.1.events x.1.answer (none_to_take w number line r ranged a) (none_to_acknowledge w number line r h a) (none_to_put w number line r ranged calm h a) (waits_for_one w number line r ranged a) (shut_for w number line r ranged a) waits
+leaves_none w number line r ranged calm h a waits = let x = verb_step w number line in by_answer r line x.1.events x.1.answer (none_to_take w number line r ranged a) (none_to_acknowledge w number line r h a) (none_to_put w number line r ranged calm h a) (waits_for_one w number line r ranged a) (shut_for w number line r ranged a) waits (stops_for_disk w number line r ranged calm h a)

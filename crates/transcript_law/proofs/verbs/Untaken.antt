@@ -169,6 +169,7 @@ at_vb_beside r n v (VbVerb.Promote uuid) line = either (is_of_turn r n v line) (
 at_vb_beside r n v VbVerb.Follow line = either (is_of_turn r n v line) (is_of_disk n line) (is_beside line ≡ true) (of_turn r n v line) (of_disk n line)
 at_vb_beside r n v VbVerb.Dead line = either (is_of_turn r n v line) (is_of_disk n line) (is_beside line ≡ true) (of_turn r n v line) (of_disk n line)
 at_vb_beside r n v VbVerb.Tick line = of_clients n line
+at_vb_beside r n v VbVerb.Trim line = of_none line
 at_vb_beside r n v VbVerb.Seal line = of_none line
 at_vb_beside r n v VbVerb.Take line = of_batch n v line
 at_vb_beside r n v VbVerb.Save line = of_disk n line
@@ -186,6 +187,10 @@ at_cut_beside : (dial : Option Dial) (l : ℕ) (line : Event) → at_link dial l
 at_cut_beside None l line e = of_none line e
 at_cut_beside (Some dial) l line e = of_cut l line e
 
+at_drop_beside : (dial : Option Dial) (l : ℕ) (line : Event) → at_link dial l LinkVerb.Drop line ≡ true → is_beside line ≡ true
+at_drop_beside None l line e = of_none line e
+at_drop_beside (Some dial) l line e = of_none line e
+
 may_beside : (r : Chronicle) (asked : Verb) → is_apart asked ≡ true → (line : Event) → may_tell r asked line ≡ true → is_beside line ≡ true
 may_beside r (Verb.Node n) apart line e = of_none line e
 may_beside r (Verb.Link l m n v buffer takeover) apart line e = of_none line e
@@ -195,6 +200,7 @@ may_beside r (Verb.AtClient n c what) apart line e = at_client_beside n c what l
 may_beside r (Verb.AtLink l (LinkVerb.Up wanted)) apart line e = cc
 may_beside r (Verb.AtLink l (LinkVerb.Down wanted)) apart line e = cc
 may_beside r (Verb.AtLink l (LinkVerb.Pump wanted)) apart line e = cc
+may_beside r (Verb.AtLink l LinkVerb.Drop) apart line e = at_drop_beside (r.dial_of l) l line e
 may_beside r (Verb.AtLink l LinkVerb.Cut) apart line e = at_cut_beside (r.dial_of l) l line e
 
 pub all_beside : (r : Chronicle) (asked : Verb) (lines : List Event) → is_apart asked ≡ true → TellsOf r asked lines → are_all is_beside lines ≡ true
@@ -232,6 +238,10 @@ cut_moves : (r : Chronicle) (dial : Option Dial) (l : ℕ) (lines : List Event) 
 cut_moves r None l lines m = m
 cut_moves r (Some dial) l lines m = m
 
+drop_moves : (r : Chronicle) (dial : Option Dial) (l : ℕ) (lines : List Event) → MovesAt r dial l LinkVerb.Drop lines → ⊥
+drop_moves r None l lines m = m
+drop_moves r (Some dial) l lines m = m
+
 pub told_by : (r : Chronicle) (asked : Verb) (lines : List Event) → TellsOnly r asked lines → ToldBy r asked lines
 told_by r (Verb.Node n) lines t = apart_tells r (Verb.Node n) lines (λ m. m) t
 told_by r (Verb.Link l m n v buffer takeover) lines t = apart_tells r (Verb.Link l m n v buffer takeover) lines (λ y. y) t
@@ -241,4 +251,5 @@ told_by r (Verb.AtClient n c what) lines t = apart_tells r (Verb.AtClient n c wh
 told_by r (Verb.AtLink l (LinkVerb.Up wanted)) lines t = apart_tells r (Verb.AtLink l (LinkVerb.Up wanted)) lines (up_moves r (r.dial_of l) l wanted lines) t
 told_by r (Verb.AtLink l (LinkVerb.Down wanted)) lines t = t
 told_by r (Verb.AtLink l (LinkVerb.Pump wanted)) lines t = tt
+told_by r (Verb.AtLink l LinkVerb.Drop) lines t = apart_tells r (Verb.AtLink l LinkVerb.Drop) lines (drop_moves r (r.dial_of l) l lines) t
 told_by r (Verb.AtLink l LinkVerb.Cut) lines t = apart_tells r (Verb.AtLink l LinkVerb.Cut) lines (cut_moves r (r.dial_of l) l lines) t

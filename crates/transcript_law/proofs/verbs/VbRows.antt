@@ -14,8 +14,8 @@ use Rattle.transcript_law.proofs.verbs.FiredLines.{admin_spared, done_taken, due
 use Rattle.transcript_law.proofs.verbs.LineAnswers.{AllTold, IsOk, KeptIn, admin_says, armed_answered, done_line_says, kept_in, new_shut_at, no_ok, opens_of, save_taken, settled_says, shut_at, take_line_says, told_of_opens}
 use Rattle.transcript_law.proofs.verbs.{Branching.{replica_goes, vb_goes}, Chains.{chain_line_goes, tick_line_goes}, DoneLine.{done_goes}, FlushLines.{stat_goes, take_goes}, NodeLines.{on_node_goes}, RoleLines.{dead_line, follow_line, log_goes, promote_line, seal_goes}}
 use Rattle.transcript_law.specs.LawfulAnswers.{IsStill}
-use Rattle.transcript_law.proofs.verbs.{Rows.{Goes, Row, alone_row, answered_row, node_spared, told_goes}, Saving.{save_goes}, Settling.{steady}, Showing.{show_goes}}
-use Rattle.transcript_law.proofs.verbs.{StopTellings.{AreDialed, world_dialed}, VbTellings.{chain_tells, dead_tells, done_tells, follow_tells, log_tells, made_tells, promote_tells, save_tells, seal_tells, show_tells, stat_tells, take_tells, tick_tells}}
+use Rattle.transcript_law.proofs.verbs.{Rows.{Goes, Row, alone_row, answered_row, node_spared, told_goes}, Saving.{save_goes}, Settling.{steady}, Showing.{show_goes}, Trimming.{trim_goes, trim_says}}
+use Rattle.transcript_law.proofs.verbs.{StopTellings.{AreDialed, world_dialed}, VbTellings.{chain_tells, dead_tells, done_tells, follow_tells, log_tells, made_tells, promote_tells, save_tells, seal_tells, show_tells, stat_tells, take_tells, tick_tells, trim_tells}}
 use Rattle.transcript_law.specs.{Chronicles.{ahead}, Firings.{FiresAsSaid, FiresInLine, may_write}, LineAnswers.{IsTaken, KindAnswer, vb_kind}, Tellings.{TellsOf}}
 use Rattle.transcript_law.specs.LineAnswers as kind
 use Rattle.vb_types.specs.declared.journal.FlushPart.TheVariants as part
@@ -115,6 +115,9 @@ module _ (w : PlainWorld) (n v : ℕ) where
       (λ r fits ranged calm begins a. tick_line_goes stays steady w (record r { ticks = Some (n, v) }) n v refl ranged calm.0 (a.0, beside w r r.conn_at r.made (Some (n, v)) r.changed a.0 (λ one durable i. i) a.1))
   vb_row_of VbVerb.Seal = admin_row VbVerb.Seal AdminCall.Seal refl refl tt (λ before r lines said old. seal_entered r n v said old) (λ told. seal_tells told w n v)
       (λ r told. seal_told w r n v told) (λ r a. seal_goes stays w r n v a)
+  vb_row_of VbVerb.Trim = answered_row (λ r told. Unit {0}) w (Verb.AtVb n v VbVerb.Trim) n (admin_line n v AdminCall.Trim) (λ r. (refl, λ told s. s)) (λ before r lines said old. old) (λ fits node up r. admin_ranged n v AdminCall.Trim node r) (λ node here. admin_still n v AdminCall.Trim node)
+      (λ node. less_keeps node (admin_line n v AdminCall.Trim node).0 (step_new node.vbs v VbCall.Trim tt) (λ c. refl)) (λ node r. admin_spared n v AdminCall.Trim refl node) (λ told node r. trim_tells told w n v node)
+      (λ r told. admin_says (λ x. Unit {0}) w n v AdminCall.Trim refl (λ why. tt) (λ vb has. (tt, λ why e s. cc))) (λ r t answered. trim_says w r n v t.agrees) (λ r fits ranged calm begins a. trim_goes stays w r n v a)
   vb_row_of VbVerb.Take = answered_row (λ r told. KeptIn w n → IsTaken n v told.events told.answer) w (Verb.AtVb n v VbVerb.Take) n (flush_line n v part.Take) (λ r. (refl, λ told s. s)) (λ before r lines said old. old) (λ fits node up r. flush_ranged n v part.Take node r)
       (flush_still n v part.Take) (flush_keeps n v part.Take) (λ node r. flush_spared n v part.Take (take_taken v) node r.own) (λ told node r. take_tells told w n v node) (λ r told. take_line_says w n v) (λ r t answered. answered (kept_in w n t.ranged)) (λ r fits ranged calm begins a. take_goes stays steady wholes w r n v ranged a)
   vb_row_of VbVerb.Save = let o : Outcome = on_node w n (save_line n v) in let x : Told = (with_arm n w o).1 in record {

@@ -173,6 +173,14 @@ module _ (r : Chronicle) (w : PlainWorld) (n v : ℕ) where
       by (answer.Flag sealed) = refl
       by other = refl
 
+  trim_so : Called AdminCall.Trim VbVerb.Trim
+  trim_so None = refl
+  trim_so (Some reply) = by reply.answer
+    where
+      by : (a : VbAnswer) → Tells VbVerb.Trim (admin_result n v AdminCall.Trim (Some (record reply { answer = a }))).events
+      by (answer.Num removed) = refl
+      by other = refl
+
   stat_so : Called AdminCall.Stat VbVerb.Stat
   stat_so None = refl
   stat_so (Some reply) = by reply.answer
@@ -206,6 +214,9 @@ module _ (r : Chronicle) (w : PlainWorld) (n v : ℕ) where
 
   pub seal_tells : (node : PlainNode) → Tells VbVerb.Seal (admin_line n v AdminCall.Seal node).1.events
   seal_tells node = at_call AdminCall.Seal VbVerb.Seal seal_so node
+
+  pub trim_tells : (node : PlainNode) → Tells VbVerb.Trim (admin_line n v AdminCall.Trim node).1.events
+  trim_tells node = at_call AdminCall.Trim VbVerb.Trim trim_so node
 
   pub stat_tells : (node : PlainNode) → Tells VbVerb.Stat (admin_line n v AdminCall.Stat node).1.events
   stat_tells node = at_call AdminCall.Stat VbVerb.Stat stat_so node

@@ -12,10 +12,12 @@ returns c = record {
   up = λ wanted. refused_for one_over (verb.AtLink 1 (link_verb.Up wanted)) (λ n c. refl) Cause.LinkClosed tt refl refl;
   down = λ wanted. refused_for one_over (verb.AtLink 1 (link_verb.Down wanted)) (λ n c. refl) Cause.LinkClosed tt refl refl;
   pump = λ wanted. refused_for one_over (verb.AtLink 1 (link_verb.Pump wanted)) (λ n c. refl) Cause.LinkClosed tt refl refl;
+  drop = refused_for one_over (verb.AtLink 1 link_verb.Drop) (λ n c. refl) Cause.LinkClosed tt refl refl;
   cut = refused_for one_over (verb.AtLink 1 link_verb.Cut) (λ n c. refl) Cause.LinkClosed tt refl refl;
   up_undialed = λ l wanted. refused_for empty_chronicle (verb.AtLink l (link_verb.Up wanted)) (λ n c. refl) Cause.LinkClosed tt refl refl;
   down_undialed = λ l wanted. refused_for empty_chronicle (verb.AtLink l (link_verb.Down wanted)) (λ n c. refl) Cause.LinkClosed tt refl refl;
   pump_undialed = λ l wanted. refused_for empty_chronicle (verb.AtLink l (link_verb.Pump wanted)) (λ n c. refl) Cause.LinkClosed tt refl refl;
+  drop_undialed = λ l. refused_for empty_chronicle (verb.AtLink l link_verb.Drop) (λ n c. refl) Cause.LinkClosed tt refl refl;
   cut_undialed = λ l. refused_for empty_chronicle (verb.AtLink l link_verb.Cut) (λ n c. refl) Cause.LinkClosed tt refl refl;
   cuts = (((((record { producer = 0; node = 1; vb = 0 }), refl), tt), tt, refl, refl, (λ w no standing. let e : Answer.Ok ≡ Answer.No w = no in cc), hands_plain _ _ _ _ refl refl, tt, tt, λ n k opens. cc, tt, tt, (refl, tt)), tt);
   other = λ wanted. refused_for one_dialed (verb.AtLink 2 (link_verb.Up wanted)) (λ n c. refl) Cause.LinkClosed tt refl refl;

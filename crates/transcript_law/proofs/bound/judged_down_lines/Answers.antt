@@ -22,6 +22,7 @@ returns c = record {
   follow = λ v. refused_for zero_down (verb.AtVb 0 v vb_verb.Follow) (λ n c. refl) Cause.NodeDown tt refl refl;
   dead = λ v. refused_for zero_down (verb.AtVb 0 v vb_verb.Dead) (λ n c. refl) Cause.NodeDown tt refl refl;
   seal = λ v. refused_for zero_down (verb.AtVb 0 v vb_verb.Seal) (λ n c. refl) Cause.NodeDown tt refl refl;
+  trim = λ v. refused_for zero_down (verb.AtVb 0 v vb_verb.Trim) (λ n c. refl) Cause.NodeDown tt refl refl;
   take = λ v. refused_for zero_down (verb.AtVb 0 v vb_verb.Take) (λ n c. refl) Cause.NodeDown tt refl refl;
   save = λ v. refused_for zero_down (verb.AtVb 0 v vb_verb.Save) (λ n c. refl) Cause.NodeDown tt refl refl;
   done = λ v. refused_for zero_down (verb.AtVb 0 v vb_verb.Done) (λ n c. refl) Cause.NodeDown tt refl refl;

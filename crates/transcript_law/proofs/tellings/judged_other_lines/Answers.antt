@@ -23,6 +23,8 @@ returns c = record {
   opens = may_not (verb.AtClient 0 1 client_verb.Open) replies (λ r. refl) (λ r m. refl);
   hang = may_not (verb.AtClient 0 1 client_verb.Hang) replies (λ r. refl) (λ r m. refl);
   bytes = λ bytes. may_not (verb.AtClient 0 1 (client_verb.Bytes bytes)) (turns_at 0 0) (λ r. refl) (λ r m. refl);
+  drop_end = link_never 1 link_verb.Drop (ends_at 1) (λ dial. refl) (λ dial m. refl);
+  drop_role = link_never 1 link_verb.Drop (turns_at 0 0) (λ dial. refl) (λ dial m. refl);
   cut_other = link_never 1 link_verb.Cut (ends_at 2) (λ dial. refl) (λ dial m. refl);
   cut_role = link_never 1 link_verb.Cut (turns_at 0 0) (λ dial. refl) (λ dial m. refl);
 }

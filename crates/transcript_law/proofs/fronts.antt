@@ -1,0 +1,5 @@
+pub mod Found
+pub mod Groups
+pub mod Lines
+pub mod Made
+pub mod Marks
