@@ -120,7 +120,7 @@ BAD_GROUPS = [
     "item C1 2 set 61", "item C1.2.3 2 set 61", "mark C0.01 0 1 1", "mark c0.1 0 1 1", "fin C.1 2", "end C0.1 cut",
     "state L1", "state L1 Pending", "state L1 pending x", "state pending", "state 1 pending", "state L01 pending",
     "got 0 0 C0.1 1 remove 61 1 1",
-    "doc 61 1 1 0 0 0 3G", "ok x", "ok 1 more", "ok 1 wait-", "ok 1 wait-State", "ok wait-state", "ok 1 wait-state 1", "ok 18446744073709551616", "no", "#2", "ok\nok",
+    "doc 61 1 1 0 0 0 3G", "ok x", "ok 1 more", "ok 1 wait-", "ok 1 wait-State", "ok wait-state", "ok 1 wait-state 1", "ok disk", "ok 1 Disk", "ok 1 disks", "ok 1 disk 1", "ok 18446744073709551616", "no", "#2", "ok\nok",
 ]
 BAD_TRANSCRIPTS = [
     b"ok\n", b"#1\n", b"#01\nok\n", b"\xff", b"bad line 1\n#1\n", b"bad line\n",
@@ -129,7 +129,7 @@ BAD_TRANSCRIPTS = [
 
 BAD_LINES = [
     "walk 0", "node", "node 0 0", "node x", "node -1", "node 00", "vb 0 0 dead 1", "bytes 0 1 8", "bytes 0 1 xx",
-    "link 1 0 1 7 0 lead", " node 0", "up 1 18446744073709551616",
+    "link 1 0 1 7 0 lead", "trim 0", "trim 0 0 1", "drop", "drop 1000", " node 0", "up 1 18446744073709551616",
 ]
 
 # Each record of a journal once, no two numbers of the batch alike, and its payload.

@@ -19,6 +19,7 @@ LINES = {
     "up 505 60": "At most 60 bytes of link 505 are to reach its producer.",
     "down 505 70": "At most 70 bytes of link 505 are to reach its consumer.",
     "pump 505 80": "The producer of link 505 is to put 80 frames.",
+    "drop 505": "The cursor of the stream of link 505 is to be taken away.",
     "cut 505": "Link 505 is to be cut.",
     "promote 3 702 2202": "vBucket 702 of node 3 is to become active, on branch 2202.",
     "follow 3 702": "vBucket 702 of node 3 is to become a replica.",
@@ -28,6 +29,7 @@ LINES = {
     "vBucket 702 of node 3 is to have a chain: node 3, node 9, a member that is not set, node 12.",
     "tick 3 702": "The prepares of vBucket 702 of node 3 whose deadlines are over are to be given up.",
     "seal 3 702": "The open span of vBucket 702 of node 3 is to end.",
+    "trim 3 702": "The ended spans of vBucket 702 of node 3 that nobody needs any more are to be given up.",
     "take 3 702": "What vBucket 702 of node 3 has not written down is to be taken, up to a span's end.",
     "save 3 702": "The batch of vBucket 702 of node 3 is to be appended to its journal.",
     "done 3 702": "vBucket 702 of node 3 is to be told that its batch is saved.",
@@ -149,6 +151,11 @@ ANSWERS = {
     ("down 505 60", "ok 1"): "1 byte was moved.",
     ("seal 3 702", "ok 1"): "There was an open span.",
     ("seal 3 702", "ok 0"): "There was no open span.",
+    ("trim 3 702", "ok 0"): "No span was given up.",
+    ("trim 3 702", "ok 1"): "1 span was given up.",
+    ("trim 3 702", "ok 3"): "3 spans were given up.",
+    ("drop 505", "ok 1"): "The stream had a cursor.",
+    ("drop 505", "ok 0"): "There was no cursor.",
     ("take 3 702", "ok 5"): "5 changes were taken.",
     ("take 3 702", "ok 1"): "1 change was taken.",
     ("take 3 702", "ok 0"): "There was nothing to take.",
@@ -157,6 +164,7 @@ ANSWERS = {
     ("pump 505 80", "ok 2 full"): "2 frames were put, and the window is shut.",
     ("pump 505 80", "ok 4 wait-state"): "4 frames were put, and a state is to be answered first.",
     ("pump 505 80", "ok 1 wait-saved"): "1 frame was put, and what comes next is in the journal alone.",
+    ("pump 505 80", "ok 1 disk"): "1 frame was put, and the journal that has what comes next can't be read.",
     ("pump 505 80", "ok 80 -"): "80 frames were put.",
     ("pull 3 41 80", "ok 6 idle"): "6 frames were put, and there is no more to put now.",
     ("pull 3 41 80", "ok 0 full"): "0 frames were put, and the window is shut.",
@@ -172,6 +180,8 @@ REFUSALS = {
     ("crash 3 new", "node-down"): "Nothing is done: node 3 is down. No cause before it holds: node 3 is made.",
     ("show 3 702", "unknown-node"): "Nothing is done: node 3 is not made. No cause comes before it.",
     ("show 3 702", "unknown-vb"):
+    "Nothing is done: node 3 has no vBucket 702. No cause before it holds: node 3 is made and it is running.",
+    ("trim 3 702", "unknown-vb"):
     "Nothing is done: node 3 has no vBucket 702. No cause before it holds: node 3 is made and it is running.",
     ("vb 3 702 active 1101", "vb-exists"):
     "Nothing is done: node 3 has vBucket 702 already. No cause before it holds: node 3 is made and it is "
@@ -240,6 +250,7 @@ REFUSALS = {
     "Nothing is done: client 41 is not connected to node 3. No cause before it holds: node 3 is made and it "
     "is running.",
     ("up 505 60", "link-closed"): "Nothing is done: link 505 is not open.",
+    ("drop 505", "link-closed"): "Nothing is done: link 505 is not open.",
     ("cut 505", "link-closed"): "Nothing is done: link 505 is not open.",
     ("down 505 70", "stopped"):
     "The node stopped, and whether the record is there only a start can tell. Before that nothing was "

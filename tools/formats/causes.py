@@ -4,9 +4,9 @@ from dataclasses import dataclass, field
 
 from formats.script import OPERANDS, Line
 
-LINKS = ("up", "down", "pump", "cut")
+LINKS = ("up", "down", "pump", "drop", "cut")
 NODES = tuple(verb for verb in OPERANDS if verb not in (*LINKS, "node"))
-VBUCKETS = ("promote", "follow", "dead", "seal", "take", "save", "done", "chain", "tick", "stat", "log", "show", "link")
+VBUCKETS = ("promote", "follow", "dead", "seal", "trim", "take", "save", "done", "chain", "tick", "stat", "log", "show", "link")
 APPENDING = ("promote", "follow", "dead", "save", "down")
 
 

@@ -16,12 +16,14 @@ LINES = {
     "up": "At most {count} bytes of link {link} are to reach its producer.",
     "down": "At most {count} bytes of link {link} are to reach its consumer.",
     "pump": "The producer of link {link} is to put {count} frames.",
+    "drop": "The cursor of the stream of link {link} is to be taken away.",
     "cut": "Link {link} is to be cut.",
     "promote": "vBucket {vb} of node {node} is to become active, on branch {branch}.",
     "follow": "vBucket {vb} of node {node} is to become a replica.",
     "dead": "vBucket {vb} of node {node} is to be dead.",
     "tick": "The prepares of vBucket {vb} of node {node} whose deadlines are over are to be given up.",
     "seal": "The open span of vBucket {vb} of node {node} is to end.",
+    "trim": "The ended spans of vBucket {vb} of node {node} that nobody needs any more are to be given up.",
     "take": "What vBucket {vb} of node {node} has not written down is to be taken, up to a span's end.",
     "save": "The batch of vBucket {vb} of node {node} is to be appended to its journal.",
     "done": "vBucket {vb} of node {node} is to be told that its batch is saved.",
@@ -104,6 +106,14 @@ def answer_sentence(line: Line, answer: list[str]) -> str:
             return "There was an open span."
         case ["ok", "0"] if line.verb == "seal":
             return "There was no open span."
+        case ["ok", "0"] if line.verb == "trim":
+            return "No span was given up."
+        case ["ok", count] if line.verb == "trim":
+            return f"{counted(int(count), 'span was', 'spans were')} given up."
+        case ["ok", "1"] if line.verb == "drop":
+            return "The stream had a cursor."
+        case ["ok", "0"] if line.verb == "drop":
+            return "There was no cursor."
         case ["ok", "0"] if line.verb == "take":
             return "There was nothing to take."
         case ["ok", count] if line.verb == "take":
@@ -119,6 +129,9 @@ def answer_sentence(line: Line, answer: list[str]) -> str:
         case ["ok", count, "wait-saved"]:
             put = counted(int(count), "frame was", "frames were")
             return f"{put} put, and what comes next is in the journal alone."
+        case ["ok", count, "disk"]:
+            put = counted(int(count), "frame was", "frames were")
+            return f"{put} put, and the journal that has what comes next can't be read."
         case ["ok", count, "-"]:
             return f"{counted(int(count), 'frame was', 'frames were')} put."
     return ""

@@ -144,7 +144,7 @@ def is_answer(words: list[str]) -> bool:
     match words:
         case ["ok"] | ["no", _]:
             return True
-        case ["ok", count] | ["ok", count, "-" | "idle" | "full" | "wait-state" | "wait-saved"]:
+        case ["ok", count] | ["ok", count, "-" | "idle" | "full" | "wait-state" | "wait-saved" | "disk"]:
             return is_number(count)
     return False
 
