@@ -24,10 +24,10 @@ LENGTHS = {
     "README.md": 150,
     "CHANGELOG.md": 165,
     "docs/ARCHITECTURE.md": 358,
-    "docs/GUARANTEES.md": 437,
+    "docs/GUARANTEES.md": 434,
     "docs/KV_ENGINE.md": 100,
     "docs/PROOFS.md": 520,
-    "docs/TWINS.md": 327,
+    "docs/TWINS.md": 325,
 }
 PAGES = ["README.md", "CONTRIBUTING.md", "CHANGELOG.md", "corpus/README.md", "docs/*.md", "crates/*/README.md"]
 
