@@ -16,6 +16,7 @@ use Rattle.vb_types.specs.declared.status.Status.{Status}
 use Rattle.vb_types.specs.declared.status.Status.TheVariants as status
 use Rattle.vb_types.specs.declared.stream.AskAnswer.{AskAnswer}
 use Rattle.vb_types.specs.declared.stream.AskAnswer.TheVariants as ask_answer
+use Rattle.vb_types.specs.declared.stream.Place.{Place}
 use Rattle.vb_types.specs.declared.stream.StreamAsk.{StreamAsk}
 use Rattle.vb_calls.specs.declared.calls.VbAnswer.{VbAnswer}
 use Rattle.vb_calls.specs.declared.calls.VbAnswer.TheVariants as answer
@@ -26,7 +27,7 @@ use Rattle.flow_control.specs.declared.window.Window.{Window}
 use Rattle.flow_control.specs.Windows.{with_acked}
 use Rattle.dcp_producer.specs.declared.desk.Handshake.{Handshake}
 use Rattle.dcp_producer.specs.Producers.{PlainStream, PlainProducer, Served, is_open, member_of, stream_at, with_opened, without_stream}
-use Rattle.dcp_producer.specs.Serving.{status_sent, with_handshake, open_refusal, opened_unless, sized, sized_as, controlled, controlled_as, log_of_reply, high_of_reply, ask_verdict, request_refusal, opens, next_stream, with_asked, with_granted, new_stream, stream_answered, opening_requested, refusal_requested, stream_request, stream_closed, closed_sent, log_given, log_sent, log_answered, fed_stream, weighed, counted_by, count_answered, count_requested, acknowledged, message_answered, row_answered, read_answered, frame_answered, heard, is_taken, response_heard}
+use Rattle.dcp_producer.specs.Serving.{status_sent, with_handshake, open_refusal, opened_unless, sized, sized_as, controlled, controlled_as, log_of_reply, high_of_reply, place_of_reply, ask_verdict, request_refusal, opens, next_stream, with_asked, with_granted, new_stream, stream_answered, opening_requested, refusal_requested, stream_request, stream_closed, closed_sent, log_given, log_sent, log_answered, fed_stream, weighed, counted_by, count_answered, count_requested, acknowledged, message_answered, row_answered, read_answered, frame_answered, heard, is_taken, response_heard}
 use Rattle.dcp_producer.specs.Having.{NoneOf, IsStreamOf}
 use Rattle.dcp_producer.proofs.Finding.{none_back, found_back}
 
@@ -42,7 +43,7 @@ pub record Stays (P : PlainProducer → Type 0) (f : Frame) (end : PlainProducer
   pub shaken : (h : Handshake) → P (record end { handshake = h })
   pub window : (w : Window) → P (record end { window = w })
   pub asked : P (with_asked end)
-  pub opened : (ask : StreamAsk) → NoneOf f.vb_or_status end.streams → P (with_opened (new_stream (next_stream end) f ask) (with_asked end))
+  pub opened : (ask : StreamAsk) (sync : Bool) (from : Place) → NoneOf f.vb_or_status end.streams → P (with_opened (new_stream (next_stream end) f ask sync from) (with_asked end))
   pub taken : f.magic ≡ RESPONSE → P (record end { streams = map (heard f.opaque) end.streams })
   pub without : (stream : PlainStream) → IsStreamOf f.vb_or_status stream end.streams → P (without_stream stream.id end)
 
@@ -73,10 +74,10 @@ module _ (P : PlainProducer → Type 0) (f : Frame) (s : Served) (stays : Stays 
   control_so key value true = sized_so (sized s.end.handshake value)
   control_so key value false = controlled_so (controlled s.end.handshake key value)
 
-  granted_so : (ask : StreamAsk) → NoneOf f.vb_or_status s.end.streams → (verdict : AskAnswer) → P (with_granted (with_asked s.end) (next_stream s.end) f ask verdict)
-  granted_so ask none ask_answer.Go = stays.opened ask none
-  granted_so ask none (ask_answer.Roll to) = stays.asked
-  granted_so ask none (ask_answer.Refuse code) = stays.asked
+  granted_so : (ask : StreamAsk) → NoneOf f.vb_or_status s.end.streams → (from : Place) (verdict : AskAnswer) → P (with_granted (with_asked s.end) (next_stream s.end) f ask from verdict)
+  granted_so ask none from ask_answer.Go = stays.opened ask _ from none
+  granted_so ask none from (ask_answer.Roll to) = stays.asked
+  granted_so ask none from (ask_answer.Refuse code) = stays.asked
 
   answered_so : (ask : StreamAsk) (t : Served) (log : List LogEntry) (high : ℕ) (verdict : AskAnswer) → P t.end → P (stream_answered f ask t log high verdict).end
   unfolding stream_answered
@@ -87,8 +88,8 @@ module _ (P : PlainProducer → Type 0) (f : Frame) (s : Served) (stays : Stays 
       let none : NoneOf f.vb_or_status s.end.streams = none_back f.vb_or_status s.end.streams (not_some (not (is_some (request_refusal s.end ask))) (stream_at f.vb_or_status s.end.streams) is) in (
         tt,
         λ reply any.
-            answered_so ask (record s { end = with_granted (with_asked s.end) (next_stream s.end) f ask (ask_verdict reply) }) (log_of_reply reply) (high_of_reply reply) (ask_verdict reply)
-            (granted_so ask none (ask_verdict reply)),
+            answered_so ask (record s { end = with_granted (with_asked s.end) (next_stream s.end) f ask (place_of_reply reply) (ask_verdict reply) }) (log_of_reply reply) (high_of_reply reply) (ask_verdict reply)
+            (granted_so ask none (place_of_reply reply) (ask_verdict reply)),
       )
   request_so ask false is = (tt, λ reply any. answered_so ask s (log_of_reply reply) (high_of_reply reply) _ stays.same)
 

@@ -46,7 +46,7 @@ module _ (f : Frame) (s : Served) (sound : IsSound s.end) (asks : f.magic ≢ RE
     shaken = λ h. refl;
     window = λ w. refl;
     asked = refl;
-    opened = λ ask none. between v s.end.streams (new_stream (next_stream s.end) f ask) [] refl ∙ ap (those v) (append-nil s.end.streams);
+    opened = λ ask sync from none. between v s.end.streams (new_stream (next_stream s.end) f ask sync from) [] refl ∙ ap (those v) (append-nil s.end.streams);
     taken = λ is. absurd (asks is);
     without = left_others;
   }

@@ -35,6 +35,18 @@ abbrev pub says_wait : NextFrame → Waits
 says_wait (next.Put m line) = waits.Nothing
 says_wait (next.End reason) = waits.Nothing
 says_wait (next.Quiet for) = for
+says_wait next.Disk = waits.Nothing
+
+-- one's journal can't be read
+abbrev pub stops_at : NextFrame → Bool
+stops_at (next.Put m line) = false
+stops_at (next.End reason) = false
+stops_at (next.Quiet for) = false
+stops_at next.Disk = true
+
+-- so it is with one of these
+abbrev pub stops_in : List Tried → Bool
+stops_in tries = list_any (λ t. stops_at t.next) tries
 
 -- what these wait for, as a pull says it
 abbrev pub waits_in : {X : Type 0} → (X → Waits) → List X → Waits

@@ -1,8 +1,10 @@
 -- a producer stays at its desk, whatever it answers and puts
 use Rattle.std.proofs.Common.{◌≡◌, ℕ, ◌∙◌}
 use Rattle.mcbp_frame.specs.declared.frame.Frame.{Frame}
+use Rattle.vb_calls.specs.Jobs.{AlwaysJob, IsRead}
 use Rattle.vb_calls.specs.Programs.{Always, AnyCall, AnyReply}
 use Rattle.vb_calls.proofs.Conduct.{always_so}
+use Rattle.vb_calls.proofs.JobConduct.{always_so_job}
 use Rattle.dcp_producer.specs.declared.desk.Desk.{Desk}
 use Rattle.dcp_producer.specs.declared.halt.Halt.{Halt}
 use Rattle.dcp_producer.specs.Pairs.{AnyChange, IsOneOf, PullsPairs}
@@ -24,5 +26,5 @@ module _ (desk : Desk) where
   abbrev pub PutAt : Served × Halt → Type 0
   PutAt put = At put.0
 
-  pub pulled_at : (k : ℕ) (s : Served) → At s → Always AnyCall PutAt (frames_put k s)
-  pulled_at k s at = always_so AnyReply AnyCall (PullsPairs (IsOneOf AnyChange s.end.streams) k s) PutAt (frames_put k s) (λ put pairs. pairs.desk ∙ at) (any_pairs k s)
+  pub pulled_at : (k : ℕ) (s : Served) → At s → AlwaysJob AnyReply AnyCall IsRead PutAt (frames_put k s)
+  pulled_at k s at = always_so_job AnyReply AnyCall IsRead (PullsPairs (IsOneOf AnyChange s.end.streams) k s) PutAt (frames_put k s) (λ put pairs. pairs.desk ∙ at) (any_pairs k s)

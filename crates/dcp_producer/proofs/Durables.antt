@@ -1,5 +1,5 @@
 -- what is put of changes, and of durable writes
-use Rattle.std.proofs.Common.{◌≡◌, ℕ, Bool, true, false, List, [], ◌∷◌, ◌++◌, refl, ap, ◌∙◌}
+use Rattle.std.proofs.Common.{◌≡◌, ℕ, Bool, true, false, List, [], ◌∷◌, ◌++◌, None, refl, ap, ◌∙◌}
 use Rattle.mcbp_frame.specs.Spelling.{spelling}
 use Rattle.mcbp_dcp.specs.declared.message.DcpMsg.{DcpMsg}
 use Rattle.mcbp_dcp.specs.declared.message.DcpMsg.TheVariants as msg
@@ -15,7 +15,8 @@ use Rattle.vb_types.specs.declared.change.Level.TheVariants as level
 use Rattle.vb_types.specs.declared.doc.Doc.{Doc}
 use Rattle.vb_events.specs.declared.event.Event.TheVariants as event
 use Rattle.vb_types.specs.declared.stream.Snapshot.{Snapshot}
-use Rattle.vb_calls.specs.Programs.{Done, Stop, bind}
+use Rattle.vb_calls.specs.Jobs.{Ended, bind_job}
+use Rattle.vb_calls.specs.Programs.{Stop}
 use Rattle.mcbp_dcp.specs.MessageRows.{answer_head, state_bytes, deletion_bytes, end_bytes, marker_bytes, mutation_bytes, no_four}
 use Rattle.dcp_producer.specs.Producers.{Served}
 use Rattle.dcp_producer.specs.Frames.{state_put, act_message, act_sent, item_line, marker_flags, next_by, next_frame, past_item}
@@ -27,16 +28,16 @@ module _ (a : Asking) (c : Change) (next : IsNext a.stream c) where
   item_served : DcpMsg → Served
   item_served m = frame_put (dcp_frame m a.stream.opaque a.stream.vb) (item_line a.served.end.desk.stream c) (stream_went (past_item c.seq a.stream) a.served)
 
-  item_turn : stream_asked a.served a.quiet a.stream ≡ Done (Stop (pull_of (item_served (act_message c c.act)) a.quiet))
+  item_turn : stream_asked a.served a.quiet a.stream ≡ Ended (Stop (pull_of (item_served (act_message c c.act)) a.quiet, None))
   unfolding next_frame item_served
-  item_turn = ap (λ o. bind (next_by a.served.end.desk.stream a.stream o) (λ n. Done (came a.served a.quiet n))) next
+  item_turn = ap (λ o. bind_job (next_by a.served.end.desk.stream a.stream o) (λ n. Ended (came a.served a.quiet n))) next
 
   -- an item with this act and this message is put
   puts : (x : Act) (m : DcpMsg) → c.act ≡ x → act_message c x ≡ m → Puts a c (act_sent x) m
   unfolding item_served
   puts x m is said = record {
     then = item_served m;
-    goes_on = item_turn ∙ ap (λ o. Done (Stop (pull_of (item_served o) a.quiet))) (ap (act_message c) is ∙ said);
+    goes_on = item_turn ∙ ap (λ o. Ended (Stop (pull_of (item_served o) a.quiet, None))) (ap (act_message c) is ∙ said);
     line = ap (λ sent. a.served.events ++ event.Item a.served.end.desk.stream c.seq sent c.key ∷ []) (ap act_sent is);
     frame = refl;
   }
@@ -60,7 +61,7 @@ bytes_put : (c : Change) (m : DcpMsg) (bytes : List ℕ) → act_message c c.act
 unfolding item_served
 bytes_put c m bytes said spelled a next opaque vb = (
   item_served a c next m,
-  item_turn a c next ∙ ap (λ o. Done (Stop (pull_of (item_served a c next o) a.quiet))) said,
+  item_turn a c next ∙ ap (λ o. Ended (Stop (pull_of (item_served a c next o) a.quiet, None))) said,
   (λ i. a.served.out ++ spelling (dcp_frame m (opaque i) (vb i))) ∙ ap (λ b. a.served.out ++ b) spelled,
 )
 

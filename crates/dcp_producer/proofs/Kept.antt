@@ -8,7 +8,8 @@ use Rattle.std.proofs.lemmas.List.Elements.{All-nil, All-cons, All-head, All-tai
 use Rattle.flow_control.specs.Rings.{PlainRing, IsRing, without, closed, opened}
 use Rattle.dcp_producer.specs.Producers.{PlainStream, PlainProducer, replaced, with_opened, without_place, without_id, without_stream, Rising, IsKept}
 use Rattle.dcp_producer.specs.Ending.{ended_in}
-use Rattle.dcp_producer.specs.Serving.{heard}
+use Rattle.dcp_producer.specs.Serving.{heard, with_source, with_source_at}
+use Rattle.vb_types.specs.declared.stream.Place.{Place}
 use Rattle.std.specs.Option.{option_map}
 use Rattle.takeover.specs.GivingUp.{answered}
 
@@ -234,3 +235,28 @@ heard_ids opaque (s ∷ more) = λ i. heard_id opaque s (s.opaque == opaque) i �
 
 pub kept_heard : (base asked opaque : ℕ) (streams : List PlainStream) (ring : PlainRing) → IsKept base asked streams ring → IsKept base asked (map (heard opaque) streams) ring
 kept_heard base asked opaque streams ring kept = kept_same base asked streams (map (heard opaque) streams) ring (heard_ids opaque streams) kept
+
+-- where its first changes come from gives no stream another number
+source_id : (from : Place) (s : PlainStream) (b : Bool) → (if b then with_source from s else s).id ≡ s.id
+source_id from s true = refl
+source_id from s false = refl
+
+sourced_ids : (from : Place) (id : ℕ) (streams : List PlainStream) → ids_of (map (with_source_at from id) streams) ≡ ids_of streams
+sourced_ids from id [] = refl
+sourced_ids from id (s ∷ more) = λ i. source_id from s (s.id == id) i ∷ sourced_ids from id more i
+
+pub kept_sourced : (base asked : ℕ) (from : Place) (id : ℕ) (streams : List PlainStream) (ring : PlainRing) → IsKept base asked streams ring → IsKept base asked (map (with_source_at from id) streams) ring
+kept_sourced base asked from id streams ring kept = kept_same base asked streams (map (with_source_at from id) streams) ring (sourced_ids from id streams) kept
+
+-- it is known of the one that was listed last alone
+source_last : (from : Place) (id : ℕ) (streams : List PlainStream) (stream : PlainStream) → stream.id ≡ id → All (λ other. other.id < id) streams
+    → map (with_source_at from id) (streams ++ stream ∷ []) ≡ streams ++ with_source from stream ∷ []
+source_last from id [] stream is lower = ap (λ b. (if b then with_source from stream else stream) ∷ []) (equal stream.id id is)
+source_last from id (s ∷ more) stream is lower =
+    ap (λ b. (if b then with_source from s else s) ∷ map (with_source_at from id) (more ++ stream ∷ [])) (below s.id id (All-head (λ other. other.id < id) s more lower))
+    ∙ ap (λ l. s ∷ l) (source_last from id more stream is (All-tail (λ other. other.id < id) s more lower))
+
+pub sourced_behind : (end : PlainProducer) (ring : PlainRing) (from : Place) (id : ℕ) (stream : PlainStream) → stream.id ≡ id → id ≡ end.desk.base * 2 ^ 32 + (end.asked + 1)
+    → IsKept end.desk.base end.asked end.streams ring → map (with_source_at from id) (end.streams ++ stream ∷ []) ≡ end.streams ++ with_source from stream ∷ []
+sourced_behind end ring from id stream is next kept =
+    source_last from id end.streams stream is (All-weaker (λ other. other.id ≤ end.desk.base * 2 ^ 32 + end.asked) (λ other. other.id < id) (λ other low. omega (arith, low, next)) end.streams kept.numbered)

@@ -7,7 +7,8 @@ pub mod Releasing
 pub mod Durables
 pub mod Naming
 pub mod Decimals
-mod Calling
+pub mod ReadFirst
+pub mod ReadRuns
 pub mod Finding
 pub mod Requests
 pub mod Acknowledging
@@ -26,9 +27,12 @@ pub mod Answering
 pub mod Sound
 pub mod Apart
 pub mod Going
+mod Silent
+pub mod Dues
 pub mod Ends
 pub mod Staying
 pub mod Turns
+pub mod Settling
 pub mod Stills
 pub mod Anew
 pub mod AskingAll
@@ -37,6 +41,7 @@ pub mod Wanting
 pub mod Outcomes
 pub mod ClientAnswers
 pub mod Headers
+pub mod Gots
 pub mod Putting
 pub mod Pairs
 pub mod Telling

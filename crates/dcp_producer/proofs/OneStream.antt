@@ -5,9 +5,10 @@ use Rattle.std.proofs.lemmas.Bool.Decides.{nat_tests}
 use Rattle.mcbp_dcp.specs.declared.message.DcpMsg.TheVariants as msg
 use Rattle.mcbp_dcp.specs.DcpFrames.{dcp_frame}
 use Rattle.vb_events.specs.declared.event.Event.TheVariants as event
-use Rattle.vb_calls.specs.Programs.{Done, bind, Turn, More, Stop, repeated, AnyReply, AnyCall, Always}
-use Rattle.vb_calls.proofs.Binds.{bind_assoc, bind_same}
-use Rattle.vb_calls.proofs.Conduct.{always_so}
+use Rattle.vb_calls.specs.Jobs.{Ended, bind_job, repeated_job, AlwaysJob, IsRead}
+use Rattle.vb_calls.specs.Programs.{Turn, More, Stop, AnyReply, AnyCall}
+use Rattle.vb_calls.proofs.JobBinds.{bind_job_assoc, bind_job_same}
+use Rattle.vb_calls.proofs.JobConduct.{always_so_job}
 use Rattle.flow_control.specs.Windows.{is_open}
 use Rattle.flow_control.specs.Rings.{PlainRing, at_turn, passed, without}
 use Rattle.dcp_producer.specs.declared.halt.Halt.{Halt}
@@ -24,6 +25,7 @@ one_came s (next.Put m line, left) = More (pull_of (frame_put (dcp_frame m left.
 one_came s (next.End reason, left) =
     More (pull_of (frame_put (dcp_frame (msg.StreamEnd reason) left.opaque left.vb) (event.Finished s.end.desk.stream reason) (record s { end = record s.end { streams = []; turn = 0 } })) none_quiet)
 one_came s (next.Quiet waits, left) = Stop (record s { end = record s.end { streams = left ∷ []; turn = 1 } }, quiet_halt (record { ids = []; waits = waits }))
+one_came s (next.Disk, left) = Stop (record s { end = record s.end { streams = left ∷ []; turn = 1 } }, halt.Disk)
 
 -- the connection with its one stream, behind so many turns
 abbrev one_end : Served → PlainStream → ℕ → Served
@@ -73,34 +75,35 @@ one_turn_came s t (next.End reason, left) same =
     ap (λ u. turns_came (came_as u none_quiet left (next.End reason))) (one_went s t left same.id)
     ∙ ap (λ e. More (pull_of (frame_put (dcp_frame (msg.StreamEnd reason) left.opaque left.vb) (event.Finished s.end.desk.stream reason) (record s { end = e })) none_quiet)) (one_over s left)
 one_turn_came s t (next.Quiet waits, left) same = ap (λ u. Stop (u, quiet_halt (record { ids = []; waits = waits }))) (one_went s t left same.id)
+one_turn_came s t (next.Disk, left) same = ap (λ u. Stop (u, halt.Disk)) (one_went s t left same.id)
 
 -- the frame of the connection is that of its one stream
 pub one_frame_of : (s : Served) (t : PlainStream) → s.end.streams ≡ t ∷ [] → is_open s.end.window ≡ true
-    → one_frame (pull_of s none_quiet) ≡ bind (next_frame s.end.desk.stream t) (λ next. Done (one_came s next))
+    → one_frame (pull_of s none_quiet) ≡ bind_job (next_frame s.end.desk.stream t) (λ next. Ended (one_came s next))
 unfolding one_frame one_turn
 one_frame_of s t one free =
     let here : Served = one_end s t s.end.turn in
     let turned : turn_had (past_turn here) none_quiet (stream_in_turn here.end) ≡ stream_asked (one_end s t 1) none_quiet t =
     λ i. turn_had (one_turned s t s.end.turn i) none_quiet (one_in_turn s t s.end.turn i) in
-    let came_so : Always AnyCall (λ next. turns_came (came (one_end s t 1) none_quiet next) ≡ one_came s next) (next_frame s.end.desk.stream t) =
-    always_so AnyReply AnyCall (GoesOn t) (λ next. turns_came (came (one_end s t 1) none_quiet next) ≡ one_came s next) (next_frame s.end.desk.stream t) (one_turn_came s t) (frame_same s.end.desk.stream t) in
+    let came_so : AlwaysJob AnyReply AnyCall IsRead (λ next. turns_came (came (one_end s t 1) none_quiet next) ≡ one_came s next) (next_frame s.end.desk.stream t) =
+    always_so_job AnyReply AnyCall IsRead (GoesOn t) (λ next. turns_came (came (one_end s t 1) none_quiet next) ≡ one_came s next) (next_frame s.end.desk.stream t) (one_turn_came s t) (frame_same s.end.desk.stream t) in
     (λ i. one_frame (pull_of (record s { end = record s.end { streams = one i } }) none_quiet))
-    ∙ ap (λ b. if b then bind (repeated 1 one_turn (pull_of here none_quiet)) (λ turns. Done (turns_came turns)) else Done (Stop (here, halt.Full))) free
-    ∙ ap (λ prog. bind prog (λ turns. Done (turns_came turns))) turned
-    ∙ bind_assoc (next_frame s.end.desk.stream t) (λ next. Done (came (one_end s t 1) none_quiet next)) (λ turns. Done (turns_came turns))
-    ∙ bind_same (next_frame s.end.desk.stream t) (λ next. Done (turns_came (came (one_end s t 1) none_quiet next))) (λ next. Done (one_came s next))
-    (always_so AnyReply AnyCall (λ next. turns_came (came (one_end s t 1) none_quiet next) ≡ one_came s next) (λ next. Done (turns_came (came (one_end s t 1) none_quiet next)) ≡ Done (one_came s next)) (next_frame s.end.desk.stream t) (λ next is. ap Done is) came_so)
+    ∙ ap (λ b. if b then bind_job (repeated_job 1 one_turn (pull_of here none_quiet)) (λ turns. Ended (turns_came turns)) else Ended (Stop (here, halt.Full))) free
+    ∙ ap (λ prog. bind_job prog (λ turns. Ended (turns_came turns))) turned
+    ∙ bind_job_assoc (next_frame s.end.desk.stream t) (λ next. Ended (came (one_end s t 1) none_quiet next)) (λ turns. Ended (turns_came turns))
+    ∙ bind_job_same AnyCall IsRead (next_frame s.end.desk.stream t) (λ next. Ended (turns_came (came (one_end s t 1) none_quiet next))) (λ next. Ended (one_came s next))
+    (always_so_job AnyReply AnyCall IsRead (λ next. turns_came (came (one_end s t 1) none_quiet next) ≡ one_came s next) (λ next. Ended (turns_came (came (one_end s t 1) none_quiet next)) ≡ Ended (one_came s next)) (next_frame s.end.desk.stream t) (λ next is. ap Ended is) came_so)
 
 -- with no stream there is none
-pub no_frame_of : (s : Served) → s.end.streams ≡ [] → is_open s.end.window ≡ true → one_frame (pull_of s none_quiet) ≡ Done (Stop (s, halt.Idle))
+pub no_frame_of : (s : Served) → s.end.streams ≡ [] → is_open s.end.window ≡ true → one_frame (pull_of s none_quiet) ≡ Ended (Stop (s, halt.Idle))
 unfolding one_frame
 no_frame_of s none free =
     (λ i. one_frame (pull_of (record s { end = record s.end { streams = none i } }) none_quiet))
-    ∙ ap (λ b. if b then Done (Stop (record s { end = record s.end { streams = [] } }, halt.Idle)) else Done (Stop (record s { end = record s.end { streams = [] } }, halt.Full))) free
-    ∙ (λ i. Done (Stop (record s { end = record s.end { streams = sym none i } }, halt.Idle)))
+    ∙ ap (λ b. if b then Ended (Stop (record s { end = record s.end { streams = [] } }, halt.Idle)) else Ended (Stop (record s { end = record s.end { streams = [] } }, halt.Full))) free
+    ∙ (λ i. Ended (Stop (record s { end = record s.end { streams = sym none i } }, halt.Idle)))
 
 -- nothing goes through a window that is shut
-pub shut_frame_of : (s : Served) (q : QuietOnes) → is_open s.end.window ≡ false → one_frame (pull_of s q) ≡ Done (Stop (s, halt.Full))
+pub shut_frame_of : (s : Served) (q : QuietOnes) → is_open s.end.window ≡ false → one_frame (pull_of s q) ≡ Ended (Stop (s, halt.Full))
 unfolding one_frame
 shut_frame_of s q shut =
-    ap (λ b. if b then bind (repeated (length s.end.streams) one_turn (pull_of s q)) (λ turns. Done (turns_came turns)) else Done (Stop (s, halt.Full))) shut
+    ap (λ b. if b then bind_job (repeated_job (length s.end.streams) one_turn (pull_of s q)) (λ turns. Ended (turns_came turns)) else Ended (Stop (s, halt.Full))) shut

@@ -1,22 +1,28 @@
 -- what follows from taking turns
-use Rattle.std.proofs.Common.{◌≡◌, ◌≢◌, ◌+◌, ◌<◌, ◌≤◌, ℕ, List, [], ◌∷◌, ◌++◌, length, map, refl, sym, ap, ◌∙◌, subst, append-nil, append_assoc, arith}
+use Rattle.std.proofs.Common.{◌≡◌, ◌≢◌, ◌+◌, ◌<◌, ◌≤◌, ℕ, List, [], ◌∷◌, ◌++◌, length, map, refl, sym, ap, ◌∙◌, subst, inl, inr, append-nil, append_assoc, arith}
 use Rattle.std.specs.Prelude.{if◌then◌else◌, take, drop}
 use Rattle.std.specs.List.{All}
 use Rattle.std.proofs.lemmas.List.{length-append}
 use Rattle.std.proofs.lemmas.List.Elements.{All-head, All-tail, All-nil, All-cons, All-append}
 use Rattle.vb_events.specs.declared.event.StreamName.{StreamName}
-use Rattle.vb_calls.specs.Programs.{AnyCall}
+use Rattle.vb_calls.specs.Jobs.{IsRead}
+use Rattle.vb_calls.specs.Programs.{AnyCall, Made}
+use Rattle.vb_told.proofs.Walks.{told_always_job}
 use Rattle.dcp_producer.specs.declared.next_frame.NextFrame.{NextFrame}
 use Rattle.dcp_producer.specs.declared.next_frame.NextFrame.TheVariants as next
 use Rattle.dcp_producer.specs.Frames.{Next, next_frame}
 use Rattle.dcp_producer.specs.Producers.{PlainStream, PlainProducer, Rising}
 use Rattle.dcp_producer.specs.Turns.{Tried, IsTold, TakeTurns, turns_of, waiting, made_in}
-use Rattle.dcp_producer.specs.Orders.{IsPut, IsOut, IsNotAsked, AreDifferent, AreBetween, AreOut, most_calls, AskLittle}
-use Rattle.dcp_producer.proofs.Framing.{Same, GoesOn, FrameCase, an_item, by_role, all_sent, it_waits, no_place, a_marker, nothing, all_up, a_state, awaits, no_take, frame_same, frame_told}
+use Rattle.dcp_producer.specs.Orders.{IsPut, IsOut, IsNotAsked, AreDifferent, AreBetween, AreOut, Stops, most_calls, AskLittle}
+use Rattle.dcp_producer.proofs.Framing.{Same, GoesOn, IsPromised, FrameCase, an_item, by_role, all_sent, it_waits, no_place, a_marker, nothing, all_up, a_state, awaits, no_take, from_disk, no_disk, frame_same, frame_told}
 use Rattle.dcp_producer.proofs.Turning.{take_drop}
-use Rattle.dcp_producer.proofs.Walking.{told_always}
 
 -- ---- the calls of a turn
+
+-- one at most, where a backfill is promised
+promised_few : (stream : PlainStream) (made : List Made) (end : ℕ) → IsPromised stream made end → length made ≤ 1
+promised_few stream made end (inl (unread, none)) = subst (λ ms. length ms ≤ 1) (sym none) (omega arith)
+promised_few stream made end (inr (from, said, calls)) = subst (λ ms. length ms ≤ 1) (sym calls) (omega arith)
 
 few_calls : (name : StreamName) (t : Tried) → FrameCase name t.stream t.made (t.next, t.left) → length t.made ≤ most_calls t.stream.ended t.next
 few_calls name t (an_item c there none is) = subst (λ ms. length ms ≤ most_calls t.stream.ended t.next) (sym none) (omega arith)
@@ -39,6 +45,10 @@ few_calls name t (awaits put alive g gives at none is) = subst (λ ms. length ms
 few_calls name t (no_take more from reply said no_snapshot some calls is) =
     subst (λ ms. length ms ≤ most_calls t.stream.ended t.next) (sym calls)
     (subst (λ (x : NextFrame). 2 ≤ most_calls t.stream.ended x) (sym (ap (λ (x : Next). x.0) is)) (subst (λ b. 2 ≤ (if b then 0 else 2)) (sym more.alive) (omega arith)))
+few_calls name t (from_disk more end reading snapshot promised found is) =
+    subst (λ (x : NextFrame). length t.made ≤ most_calls t.stream.ended x) (sym (ap (λ (x : Next). x.0) is)) (let low = promised_few t.stream t.made end promised in omega (arith, low))
+few_calls name t (no_disk more end reading promised found is) =
+    subst (λ (x : NextFrame). length t.made ≤ most_calls t.stream.ended x) (sym (ap (λ (x : Next). x.0) is)) (promised_few t.stream t.made end promised)
 
 pub ask_little : (name : StreamName) (first : List PlainStream) (tries : List Tried) (left : List PlainStream) → TakeTurns name first tries left → AskLittle tries
 ask_little name first [] left turns = omega arith
@@ -62,17 +72,14 @@ put_waits : (x : NextFrame) (left : PlainStream) (rest : List PlainStream) → I
 put_waits (next.Put m line) left rest put = refl
 put_waits (next.End reason) left rest put = absurd put
 put_waits (next.Quiet waits) left rest put = absurd put
-
-out_waits : (x : NextFrame) (left : PlainStream) (rest : List PlainStream) → IsOut x → waiting x left rest ≡ rest
-out_waits (next.Put m line) left rest out = absurd out
-out_waits (next.End reason) left rest out = refl
-out_waits (next.Quiet waits) left rest out = refl
+put_waits next.Disk left rest put = absurd put
 
 -- behind a turn there wait the same ones, and perhaps the one that had it
 waits_more : (x : NextFrame) (left : PlainStream) (a b : List PlainStream) → (more : List PlainStream) × (waiting x left (a ++ b) ≡ a ++ more)
 waits_more (next.Put m line) left a b = (b ++ left ∷ [], append_assoc a b (left ∷ []))
 waits_more (next.End reason) left a b = (b, refl)
 waits_more (next.Quiet waits) left a b = (b, refl)
+waits_more next.Disk left a b = (b ++ left ∷ [], append_assoc a b (left ∷ []))
 
 -- the first of these others has its turn before the one behind them
 list_first : (a b : PlainStream) (xs ys : List PlainStream) → a ∷ xs ≡ b ∷ ys → (a ≡ b) × (xs ≡ ys)
@@ -113,9 +120,10 @@ diff_waits : (x : NextFrame) (stream left : PlainStream) (rest : List PlainStrea
 diff_waits (next.Put m line) stream left rest same (here, more) = diff_push rest left more (subst (λ n. All (λ (other : PlainStream). other.id ≢ n) rest) (sym same) here)
 diff_waits (next.End reason) stream left rest same (here, more) = more
 diff_waits (next.Quiet waits) stream left rest same (here, more) = more
+diff_waits next.Disk stream left rest same (here, more) = diff_push rest left more (subst (λ n. All (λ (other : PlainStream). other.id ≢ n) rest) (sym same) here)
 
 same_of : (name : StreamName) (t : Tried) → IsTold name t → t.left.id ≡ t.stream.id
-same_of name t told = let same : Same t.stream t.left = told_always AnyCall (GoesOn t.stream) (next_frame name t.stream) t.made (t.next, t.left) (frame_same name t.stream) told in same.id
+same_of name t told = let same : Same t.stream t.left = told_always_job AnyCall IsRead (GoesOn t.stream) (next_frame name t.stream) t.made (t.next, t.left) (frame_same name t.stream) told in same.id
 
 diff_along : (name : StreamName) (first : List PlainStream) (tries : List Tried) (left : List PlainStream) → TakeTurns name first tries left → AreDifferent first → AreDifferent left
 diff_along name first [] left turns diff = subst AreDifferent (sym turns) diff
@@ -141,6 +149,8 @@ away_waits id (next.Put m line) stream left rest same all =
     away_push id rest left (All-tail (λ (other : PlainStream). other.id ≢ id) stream rest all) (λ is. All-head (λ (other : PlainStream). other.id ≢ id) stream rest all (sym same ∙ is))
 away_waits id (next.End reason) stream left rest same all = All-tail (λ (other : PlainStream). other.id ≢ id) stream rest all
 away_waits id (next.Quiet waits) stream left rest same all = All-tail (λ (other : PlainStream). other.id ≢ id) stream rest all
+away_waits id next.Disk stream left rest same all =
+    away_push id rest left (All-tail (λ (other : PlainStream). other.id ≢ id) stream rest all) (λ is. All-head (λ (other : PlainStream). other.id ≢ id) stream rest all (sym same ∙ is))
 
 never_again : (name : StreamName) (id : ℕ) (first : List PlainStream) (tries : List Tried) (left : List PlainStream) → All (λ other. other.id ≢ id) first → TakeTurns name first tries left → IsNotAsked id tries
 never_again name id first [] left all turns = All-nil (λ (t : Tried). t.stream.id ≢ id)
@@ -149,12 +159,20 @@ never_again name id first (t ∷ tries) left all (rest, is, told, turns) =
     All-cons (λ (u : Tried). u.stream.id ≢ id) t tries (All-head (λ (other : PlainStream). other.id ≢ id) t.stream rest now)
     (never_again name id (waiting t.next t.left rest) tries left (away_waits id t.next t.stream t.left rest (same_of name t told) now) turns)
 
-pub are_out : (name : StreamName) (first : List PlainStream) (tries : List Tried) (left : List PlainStream) → AreDifferent first → TakeTurns name first tries left → AreOut tries
-are_out name first tries left diff turns front back u parts out =
+pub are_out : (name : StreamName) (first : List PlainStream) (tries : List Tried) (left : List PlainStream) → AreDifferent first → Stops tries → TakeTurns name first tries left → AreOut tries
+are_out name first tries left diff stops turns front back u parts =
     let (mid, before, after) = parted name first front (u ∷ back) left (subst (λ ts. TakeTurns name first ts left) parts turns) in
     let (rest, is, told, more) = after in
     let now : AreDifferent (u.stream ∷ rest) = subst AreDifferent is (diff_along name first front mid before diff) in
-    never_again name u.stream.id rest back left now.0 (subst (λ ws. TakeTurns name ws back left) (out_waits u.next u.left rest out) more)
+    by rest now more u.next refl
+  where
+    by : (rest : List PlainStream) → AreDifferent (u.stream ∷ rest) → TakeTurns name (waiting u.next u.left rest) back left → (x : NextFrame) → u.next ≡ x → IsOut x → IsNotAsked u.stream.id back
+    by rest now more (next.Put m line) is out = absurd out
+    by rest now more (next.End reason) is out =
+        never_again name u.stream.id rest back left now.0 (subst (λ ws. TakeTurns name ws back left) (ap (λ x. waiting x u.left rest) is) more)
+    by rest now more (next.Quiet waits) is out =
+        never_again name u.stream.id rest back left now.0 (subst (λ ws. TakeTurns name ws back left) (ap (λ x. waiting x u.left rest) is) more)
+    by rest now more next.Disk is out = subst (IsNotAsked u.stream.id) (sym (stops front back u parts is)) (All-nil (λ (t : Tried). t.stream.id ≢ u.stream.id))
 
 -- ---- the streams of a connection
 

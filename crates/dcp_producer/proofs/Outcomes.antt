@@ -19,6 +19,7 @@ use Rattle.vb_types.specs.declared.status.Status.{Status}
 use Rattle.vb_types.specs.declared.status.Status.TheVariants as status
 use Rattle.vb_types.specs.declared.stream.AskAnswer.{AskAnswer}
 use Rattle.vb_types.specs.declared.stream.AskAnswer.TheVariants as ask_answer
+use Rattle.vb_types.specs.declared.stream.Place.{Place}
 use Rattle.vb_types.specs.declared.stream.StreamAsk.{StreamAsk}
 use Rattle.vb_calls.specs.declared.calls.VbAnswer.{VbAnswer}
 use Rattle.vb_calls.specs.declared.calls.VbAnswer.TheVariants as answer
@@ -32,7 +33,7 @@ use Rattle.dcp_producer.specs.declared.desk.Handshake.TheVariants as handshake
 use Rattle.dcp_producer.specs.Clients.{IsRead, IsSilent}
 use Rattle.dcp_producer.specs.Having.{IsOpened}
 use Rattle.dcp_producer.specs.Producers.{PlainStream, PlainProducer, Served, is_client, is_open, member_of, stream_at}
-use Rattle.dcp_producer.specs.Serving.{with_frame, status_sent, open_refusal, opened_unless, sized, sized_as, controlled, controlled_as, log_of_reply, high_of_reply, ask_verdict, request_refusal, opens, next_stream, verdict_with, with_asked, with_granted, stream_answered, opening_requested, refusal_requested, stream_request, stream_closed, closed_sent, log_given, log_sent, log_answered, fed_stream, weighed, counted_with, counted_by, count_answered, count_requested, acknowledged, message_answered, row_answered, read_answered, frame_answered, heard, is_taken, response_heard}
+use Rattle.dcp_producer.specs.Serving.{with_frame, status_sent, place_of_reply, open_refusal, opened_unless, sized, sized_as, controlled, controlled_as, log_of_reply, high_of_reply, ask_verdict, request_refusal, opens, next_stream, verdict_with, with_asked, with_granted, stream_answered, opening_requested, refusal_requested, stream_request, stream_closed, closed_sent, log_given, log_sent, log_answered, fed_stream, weighed, counted_with, counted_by, count_answered, count_requested, acknowledged, message_answered, row_answered, read_answered, frame_answered, heard, is_taken, response_heard}
 use Rattle.dcp_producer.proofs.Finding.{found_back}
 
 -- the calls that are made for a frame, at the vBucket that it names; those of a client's connection are no acknowledgements
@@ -172,18 +173,18 @@ module _ (replies : VbCall → Option VbReply → Type 0) (calls : ℕ → VbCal
   -- ---- a request for a stream
 
   module _ (ask : StreamAsk) (read : IsRead f (msg.StreamRequest ask)) where
-    granted_desk : (end : PlainProducer) (id : ℕ) (said : AskAnswer) → (with_granted end id f ask said).desk ≡ end.desk
-    granted_desk end id ask_answer.Go = refl
-    granted_desk end id (ask_answer.Roll to) = refl
-    granted_desk end id (ask_answer.Refuse code) = refl
+    granted_desk : (end : PlainProducer) (id : ℕ) (from : Place) (said : AskAnswer) → (with_granted end id f ask from said).desk ≡ end.desk
+    granted_desk end id from ask_answer.Go = refl
+    granted_desk end id from (ask_answer.Roll to) = refl
+    granted_desk end id from (ask_answer.Refuse code) = refl
 
     request_so : Serves (stream_request f ask s)
     unfolding stream_request
     request_so = either_serves (opens s.end f.vb_or_status ask) (opening_requested f ask s) (refusal_requested f ask s)
         (λ is. (
           mine.opens _ ask _,
-          λ reply may. outcomes.asked ask _ _ reply None (with_granted (with_asked s.end) (next_stream s.end) f ask (ask_verdict reply)) read may
-              (granted_desk (with_asked s.end) (next_stream s.end) (ask_verdict reply)),
+          λ reply may. outcomes.asked ask _ _ reply None (with_granted (with_asked s.end) (next_stream s.end) f ask (place_of_reply reply) (ask_verdict reply)) read may
+              (granted_desk (with_asked s.end) (next_stream s.end) (place_of_reply reply) (ask_verdict reply)),
         ))
         (λ is. (mine.opens 0 ask _, λ reply may. outcomes.asked ask _ _ reply (request_refusal s.end ask) s.end read may refl))
 

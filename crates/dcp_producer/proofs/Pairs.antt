@@ -1,5 +1,5 @@
 -- the frames that a pull puts, each with its line
-use Rattle.std.proofs.Common.{◌≡◌, ◌+◌, true, false, ℕ, zero, suc, List, [], ◌∷◌, ◌++◌, length, map, refl, sym, ap, ◌∙◌, subst, inl, inr, append-nil, append_assoc, arith, Some, Option}
+use Rattle.std.proofs.Common.{◌≡◌, ◌+◌, Bool, true, false, ℕ, zero, suc, List, [], ◌∷◌, ◌++◌, length, map, refl, sym, ap, ◌∙◌, subst, inl, inr, append-nil, append_assoc, arith, Some, Option}
 use Rattle.std.specs.Prelude.{slice_get}
 use Rattle.std.specs.List.{All, Contains, concat}
 use Rattle.std.proofs.lemmas.List.{length-append, map-append}
@@ -18,16 +18,20 @@ use Rattle.vb_calls.specs.declared.calls.VbAnswer.TheVariants as answer
 use Rattle.vb_calls.specs.declared.calls.VbCall.{VbCall}
 use Rattle.vb_calls.specs.declared.calls.VbCall.TheVariants as call
 use Rattle.vb_calls.specs.declared.calls.VbReply.{VbReply}
-use Rattle.vb_calls.specs.Programs.{Always, AlwaysWith, AnyCall, AnyReply}
-use Rattle.vb_calls.proofs.Conduct.{always_so}
+use Rattle.vb_calls.specs.Jobs.{AlwaysJob, IsRead}
+use Rattle.vb_calls.specs.Programs.{AnyCall, AnyReply}
+use Rattle.vb_calls.specs.Shelves.{Ask, Got, Read, Reading}
+use Rattle.backfill.specs.Backfills.{backfilled}
+use Rattle.backfill.specs.declared.backfilled.Backfilled.TheVariants as filled
 use Rattle.dcp_producer.specs.declared.halt.Halt.{Halt}
 use Rattle.dcp_producer.specs.Cuts.{IsShort, pieces}
 use Rattle.dcp_producer.specs.Firsts.{start_sent}
 use Rattle.dcp_producer.specs.Frames.{marker_flags}
-use Rattle.dcp_producer.specs.Pairs.{AnyChange, AreSpelled, GaveSpelled, GivesSpelled, IsOneOf, IsPair, IsSpelledChange, PullsPairs, PutFew}
+use Rattle.dcp_producer.specs.Pairs.{AlwaysGot, AnyChange, AnyGot, AreSpelled, GaveSpelled, GivesSpelled, GotSpelled, IsOneOf, IsPair, IsSpelledChange, PullsPairs, PutFew}
 use Rattle.dcp_producer.specs.Producers.{PlainProducer, PlainStream, Served}
 use Rattle.dcp_producer.specs.Pulling.{frame_put, frames_put}
 use Rattle.dcp_producer.proofs.Firsts.{all_sent}
+use Rattle.dcp_producer.proofs.Gots.{got_any, got_so}
 use Rattle.dcp_producer.proofs.Headers.{pieces_are, spelled_short}
 use Rattle.dcp_producer.proofs.Putting.{Lines, Puts, Takes, frames_come}
 
@@ -78,14 +82,14 @@ module _ (P : Frame × Event → Type 0) (first : Served) where
 
 -- ---- pairs of such streams
 
-module _ (replies : VbCall → Option VbReply → Type 0) (calls : ℕ → VbCall → Type 0) (G : PlainStream → Type 0) (takes : Takes replies calls G) where
+module _ (replies : VbCall → Option VbReply → Type 0) (gots : (ask : Ask) → Got ask → Type 0) (calls : ℕ → VbCall → Type 0) (G : PlainStream → Type 0) (takes : Takes replies gots calls G) where
   abbrev Line : StreamName → Frame → Event → Type 0
   Line name f line = IsPair G name (f, line)
 
-  pairs_told : Lines replies G Line
+  pairs_told : Lines replies gots G Line
   pairs_told = record {
     items = λ name stream c is g. inl (stream, g, c, is, refl, refl);
-    markers = λ name stream reply snapshot may is g. inr (inl (stream, g, start_sent stream.marked stream.first snapshot.start, snapshot.end, marker_flags snapshot.disk, refl, refl));
+    markers = λ name stream snapshot given g. inr (inl (stream, g, start_sent stream.marked stream.first snapshot.start, snapshot.end, marker_flags snapshot.disk, refl, refl));
     ends = λ name stream reason g. inr (inr (inl (stream, g, reason, refl, refl)));
     states = λ name stream told one g. inr (inr (inr (stream, g, told, one, refl, refl)));
   }
@@ -100,7 +104,7 @@ module _ (replies : VbCall → Option VbReply → Type 0) (calls : ℕ → VbCal
     puts : (n : ℕ) (t : Served) (f : Frame) (line : Event) → Line t.end.desk.stream f line → Q n t → Q (suc n) (frame_put f line t)
     puts n t f line is so = one_put (IsPair G s.end.desk.stream) s n t f line (subst (λ d. IsPair G d.stream (f, line)) so.desk is) so
 
-    comes : (put : Served × Halt) → Puts replies calls G Line takes pairs_told Q keeps puts k put → PullsPairs G k s put
+    comes : (put : Served × Halt) → Puts replies gots calls G Line takes pairs_told Q keeps puts k put → PullsPairs G k s put
     comes (left, halted) (n, so, streams, few) = record {
       pairs = so.pairs;
       each = so.each;
@@ -113,24 +117,29 @@ module _ (replies : VbCall → Option VbReply → Type 0) (calls : ℕ → VbCal
     }
 
     -- each frame that is put has its line
-    pub pairs_put : AlwaysWith replies calls (PullsPairs G k s) (frames_put k s)
-    pairs_put = always_so replies calls (Puts replies calls G Line takes pairs_told Q keeps puts k) (PullsPairs G k s) (frames_put k s) comes
-        (frames_come replies calls G Line takes pairs_told Q keeps puts k s (none_put (IsPair G s.end.desk.stream) s) all)
+    pub pairs_put : AlwaysGot replies gots calls (PullsPairs G k s) (frames_put k s)
+    pairs_put = got_so replies gots calls (Puts replies gots calls G Line takes pairs_told Q keeps puts k) (PullsPairs G k s) (frames_put k s) comes
+        (frames_come replies gots calls G Line takes pairs_told Q keeps puts k s (none_put (IsPair G s.end.desk.stream) s) all)
 
 -- ---- of the streams of a connection, by their items
 
-module _ (replies : VbCall → Option VbReply → Type 0) (I : Change → Type 0) (gives : (id : ℕ) (reply : VbReply) (snapshot : Snapshot) → replies (call.Take id) (Some reply) → reply.answer ≡ answer.Taken snapshot → All I snapshot.items)
+module _ (replies : VbCall → Option VbReply → Type 0) (gots : (ask : Ask) → Got ask → Type 0) (I : Change → Type 0)
+    (gives : (id : ℕ) (reply : VbReply) (snapshot : Snapshot) → replies (call.Take id) (Some reply) → reply.answer ≡ answer.Taken snapshot → All I snapshot.items)
+    (reads : (start end : ℕ) (sync : Bool) (reading : Reading) (snapshot : Snapshot) → gots Read reading → backfilled start end sync reading ≡ filled.Snapshot snapshot → All I snapshot.items)
     (plains : (c : Change) → I c → I (plain c)) (k : ℕ) (s : Served) where
   abbrev One : PlainStream → Type 0
   One stream = IsOneOf I s.end.streams stream
 
-  one_takes : Takes replies AnyCall One
+  one_takes : Takes replies gots AnyCall One
   one_takes = record {
     places = λ stream g. tt;
     takes = λ stream g. tt;
     closes = λ stream g. tt;
     passed = λ stream c is g. record { known = g.known; one = g.one; id = g.id; vb = g.vb; opaque = g.opaque; items = g.items };
     marked = λ stream reply snapshot may is g. record { known = g.known; one = g.one; id = g.id; vb = g.vb; opaque = g.opaque; items = all_sent I plains stream.marked stream.first snapshot.items (gives stream.id reply snapshot may is) };
+    read = λ stream end reading snapshot may is g.
+        record { known = g.known; one = g.one; id = g.id; vb = g.vb; opaque = g.opaque; items = all_sent I plains stream.marked stream.first snapshot.items (reads stream.place end stream.sync reading snapshot may is) };
+    unread = λ stream o g. record { known = g.known; one = g.one; id = g.id; vb = g.vb; opaque = g.opaque; items = g.items };
     given = λ stream o g. record { known = g.known; one = g.one; id = g.id; vb = g.vb; opaque = g.opaque; items = g.items };
   }
 
@@ -140,8 +149,8 @@ module _ (replies : VbCall → Option VbReply → Type 0) (I : Change → Type 0
       All-cons One x xs (record { known = x; one = All-head (Contains s.end.streams) x xs known; id = refl; vb = refl; opaque = refl; items = All-head (λ (stream : PlainStream). All I stream.items) x xs items })
       (all_known xs (All-tail (λ (stream : PlainStream). All I stream.items) x xs items) (All-tail (Contains s.end.streams) x xs known))
 
-  pub own_pairs : All (λ stream. All I stream.items) s.end.streams → AlwaysWith replies AnyCall (PullsPairs One k s) (frames_put k s)
-  own_pairs items = pairs_put replies AnyCall One one_takes k s (all_known s.end.streams items (All-contains_itself s.end.streams))
+  pub own_pairs : All (λ stream. All I stream.items) s.end.streams → AlwaysGot replies gots AnyCall (PullsPairs One k s) (frames_put k s)
+  own_pairs items = pairs_put replies gots AnyCall One one_takes k s (all_known s.end.streams items (All-contains_itself s.end.streams))
 
 any_items : (xs : List Change) → All AnyChange xs
 any_items [] = All-nil AnyChange
@@ -151,8 +160,9 @@ all_any : (xs : List PlainStream) → All (λ stream. All AnyChange stream.items
 all_any [] = All-nil (λ (stream : PlainStream). All AnyChange stream.items)
 all_any (x ∷ xs) = All-cons (λ (stream : PlainStream). All AnyChange stream.items) x xs (any_items x.items) (all_any xs)
 
-pub any_pairs : (k : ℕ) (s : Served) → Always AnyCall (PullsPairs (IsOneOf AnyChange s.end.streams) k s) (frames_put k s)
-any_pairs k s = own_pairs AnyReply AnyChange (λ id reply snapshot may is. any_items snapshot.items) (λ c any. tt) k s (all_any s.end.streams)
+pub any_pairs : (k : ℕ) (s : Served) → AlwaysJob AnyReply AnyCall IsRead (PullsPairs (IsOneOf AnyChange s.end.streams) k s) (frames_put k s)
+any_pairs k s = got_any AnyReply AnyCall (PullsPairs (IsOneOf AnyChange s.end.streams) k s) (frames_put k s)
+    (own_pairs AnyReply AnyGot AnyChange (λ id reply snapshot may is. any_items snapshot.items) (λ start end sync reading snapshot may is. any_items snapshot.items) (λ c any. tt) k s (all_any s.end.streams))
 
 -- a commit that is written out has the spelling of what it stands for
 spelled_plain : (c : Change) → IsSpelledChange c → IsSpelledChange (plain c)
@@ -166,8 +176,8 @@ spelled_plain c = by c.act
     by (act.Commit prepared doc false) is = (is.1, is.1)
     by (act.Abort prepared) is = is
 
-pub spelled_pairs : (k : ℕ) (s : Served) → AreSpelled s.end.streams → AlwaysWith GivesSpelled AnyCall (PullsPairs (IsOneOf IsSpelledChange s.end.streams) k s) (frames_put k s)
-spelled_pairs k s items = own_pairs GivesSpelled IsSpelledChange (λ id reply snapshot may is. subst GaveSpelled is may) spelled_plain k s items
+pub spelled_pairs : (k : ℕ) (s : Served) → AreSpelled s.end.streams → AlwaysGot GivesSpelled GotSpelled AnyCall (PullsPairs (IsOneOf IsSpelledChange s.end.streams) k s) (frames_put k s)
+spelled_pairs k s items = own_pairs GivesSpelled GotSpelled IsSpelledChange (λ id reply snapshot may is. subst GaveSpelled is may) (λ start end sync reading snapshot may is. may start end sync snapshot is) spelled_plain k s items
 
 -- ---- such frames are cut by their headers
 

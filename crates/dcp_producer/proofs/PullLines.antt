@@ -10,14 +10,15 @@ use Rattle.vb_events.specs.declared.event.Event.TheVariants as event
 use Rattle.vb_events.specs.declared.event.StreamName.{StreamName}
 use Rattle.vb_calls.specs.declared.calls.VbCall.{VbCall}
 use Rattle.vb_calls.specs.declared.calls.VbCall.TheVariants as call
-use Rattle.vb_calls.specs.Programs.{Always, AnyReply}
-use Rattle.vb_calls.proofs.Conduct.{always_so}
+use Rattle.vb_calls.specs.Jobs.{AlwaysJob, IsRead}
+use Rattle.vb_calls.specs.Programs.{AnyReply}
 use Rattle.dcp_producer.specs.declared.halt.Halt.{Halt}
 use Rattle.dcp_producer.specs.Firsts.{start_sent}
 use Rattle.dcp_producer.specs.Frames.{item_line, marker_flags}
-use Rattle.dcp_producer.specs.Pairs.{PutFew}
+use Rattle.dcp_producer.specs.Pairs.{AnyGot, PutFew}
 use Rattle.dcp_producer.specs.Producers.{PlainProducer, PlainStream, Served}
 use Rattle.dcp_producer.specs.Pulling.{frame_put, frames_put}
+use Rattle.dcp_producer.proofs.Gots.{got_any, got_so}
 use Rattle.dcp_producer.proofs.Putting.{Lines as LinesOf, Puts as PutsOf, Takes as TakesOf, frames_come}
 
 -- the calls that a stream makes for its next frame are of a kind
@@ -44,20 +45,22 @@ module _ (kind : VbCall → Type 0) (L : StreamName → Event → Type 0) (takes
   abbrev Line : StreamName → Frame → Event → Type 0
   Line name f line = L name line
 
-  takes_all : TakesOf AnyReply (λ v made. kind made) AnyStream
+  takes_all : TakesOf AnyReply AnyGot (λ v made. kind made) AnyStream
   takes_all = record {
     places = λ stream any. takes.places stream.id;
     takes = λ stream any. takes.takes stream.id;
     closes = λ stream any. takes.closes stream.id;
     passed = λ stream c is any. tt;
     marked = λ stream reply snapshot may is any. tt;
+    read = λ stream end reading snapshot may is any. tt;
+    unread = λ stream unread any. tt;
     given = λ stream gives any. tt;
   }
 
-  lines_all : LinesOf AnyReply AnyStream Line
+  lines_all : LinesOf AnyReply AnyGot AnyStream Line
   lines_all = record {
     items = λ name stream c is any. lines.items name c;
-    markers = λ name stream reply snapshot may is any. lines.markers name (start_sent stream.marked stream.first snapshot.start) snapshot.end (marker_flags snapshot.disk);
+    markers = λ name stream snapshot given any. lines.markers name (start_sent stream.marked stream.first snapshot.start) snapshot.end (marker_flags snapshot.disk);
     ends = λ name stream reason any. lines.ends name reason;
     states = λ name stream told one any. lines.states name told;
   }
@@ -69,7 +72,8 @@ module _ (kind : VbCall → Type 0) (L : StreamName → Event → Type 0) (takes
     abbrev pub Puts : ℕ → Served × Halt → Type 0
     Puts k put = (n : ℕ) × Q n put.0 × PutFew k n put.1
 
-    pub pull_so : (k : ℕ) (s : Served) → Q 0 s → Always (λ v made. kind made) (Puts k) (frames_put k s)
+    pub pull_so : (k : ℕ) (s : Served) → Q 0 s → AlwaysJob AnyReply (λ v made. kind made) IsRead (Puts k) (frames_put k s)
     pull_so k s c =
-        always_so AnyReply (λ v made. kind made) (PutsOf AnyReply (λ v made. kind made) AnyStream Line takes_all lines_all Q keeps puts k) (Puts k) (frames_put k s) (λ put so. (so.0, so.1, so.3))
-        (frames_come AnyReply (λ v made. kind made) AnyStream Line takes_all lines_all Q keeps puts k s c (any_streams s.end.streams))
+        got_any AnyReply (λ v made. kind made) (Puts k) (frames_put k s)
+        (got_so AnyReply AnyGot (λ v made. kind made) (PutsOf AnyReply AnyGot (λ v made. kind made) AnyStream Line takes_all lines_all Q keeps puts k) (Puts k) (frames_put k s) (λ put so. (so.0, so.1, so.3))
+        (frames_come AnyReply AnyGot (λ v made. kind made) AnyStream Line takes_all lines_all Q keeps puts k s c (any_streams s.end.streams)))

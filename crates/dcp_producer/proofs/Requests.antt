@@ -21,6 +21,7 @@ use Rattle.vb_types.specs.declared.role.Role.TheVariants as role
 use Rattle.vb_types.specs.declared.status.Status.{Status}
 use Rattle.vb_types.specs.declared.status.Status.TheVariants as status
 use Rattle.vb_types.specs.Statuses.{status_code}
+use Rattle.vb_types.specs.declared.stream.Place.{Place}
 use Rattle.vb_types.specs.declared.stream.StreamAsk.{StreamAsk}
 use Rattle.vb_types.specs.declared.stream.Verdict.{Verdict}
 use Rattle.vb_types.specs.declared.stream.Verdict.TheVariants as ruling
@@ -40,7 +41,7 @@ use Rattle.dcp_producer.specs.Producers.{is_client, PlainStream, PlainProducer, 
 use Rattle.dcp_producer.specs.Counting.{IsClients}
 use Rattle.takeover.specs.GivingUp.{new_give_up}
 use Rattle.vb_events.specs.declared.event.StreamName.TheVariants as name
-use Rattle.dcp_producer.specs.Serving.{MOST_STREAMS, gives_of, log_of_answer, log_of_reply, high_of_answer, high_of_reply, ask_verdict, request_refusal, opens, next_stream, verdict_of, verdict_with, with_asked, with_granted, stream_verdict, new_stream, stream_answered, opened_answered, opening_requested, refused_answered, refusal_requested, stream_request}
+use Rattle.dcp_producer.specs.Serving.{MOST_STREAMS, gives_of, log_of_answer, log_of_reply, high_of_answer, high_of_reply, place_of_reply, ask_verdict, request_refusal, opens, next_stream, verdict_of, verdict_with, with_asked, with_granted, stream_verdict, new_stream, stream_answered, opened_answered, opening_requested, refused_answered, refusal_requested, stream_request}
 use Rattle.dcp_producer.specs.Handshaking.{IsGiven}
 use Rattle.dcp_producer.specs.Having.{IsOpened, NoneOf, IsStreamOf}
 use Rattle.dcp_producer.specs.Requesting.{AreTaken, IsOutside, IsFree, number_behind, IsAgainst, IsForIt, AnsweredWith, AsksFor, Replies, OneReply, RefusedWith, IsInactive}
@@ -160,9 +161,9 @@ both_are_set : (h : Handshake) → (name : Named) × IsGiven name × (h ≡ hand
 both_are_set h (name, given, is) = ap is_sync is ∙ given_name_tested name given
 
 -- how it is answered: under the next number, or under none
-module _ (f : Frame) (ask : StreamAsk) (s : Served) (log : List LogEntry) (high : ℕ) where
+module _ (f : Frame) (ask : StreamAsk) (s : Served) (from : Place) (log : List LogEntry) (high : ℕ) where
   abbrev opened_end : AskAnswer → PlainProducer
-  opened_end verdict = with_granted (with_asked s.end) (next_stream s.end) f ask verdict
+  opened_end verdict = with_granted (with_asked s.end) (next_stream s.end) f ask from verdict
 
   abbrev said_out : AskAnswer → List ℕ
   said_out said = s.out ++ spelling (dcp_frame (msg.StreamAnswer (stream_verdict log said)) f.opaque 0)
@@ -182,8 +183,8 @@ module _ (f : Frame) (ask : StreamAsk) (s : Served) (log : List LogEntry) (high 
     rest = (refl, refl);
     go = λ e. ap said_out e;
     begins = λ e more. (
-      new_stream (next_stream s.end) f ask,
-      record { number = refl; vb = refl; opaque = refl; until = refl; first = means_first ask; items = refl; next = refl; marked = refl; reached = refl; ended = refl; gives = λ one. (new_give_up, ap gives_of one, refl); feeds = λ other. ap (λ b. if b then Some new_give_up else None) (false_from_ne_true (ask.flags == 1) (λ t. other (eqb-true ask.flags 1 t))) },
+      new_stream (next_stream s.end) f ask (is_sync s.end.handshake) from,
+      record { number = refl; vb = refl; opaque = refl; until = refl; first = means_first ask; place = refl; items = refl; next = refl; marked = refl; reached = refl; ended = refl; gives = λ one. (new_give_up, ap gives_of one, refl); feeds = λ other. ap (λ b. if b then Some new_give_up else None) (false_from_ne_true (ask.flags == 1) (λ t. other (eqb-true ask.flags 1 t))) },
       ap opened_end e,
     );
     roll = λ point e. (ap said_out e, ap opened_end e);
@@ -226,7 +227,7 @@ module _ (f : Frame) (ask : StreamAsk) (s : Served) where
           ask_verdict reply,
           subst (λ l. AnsweredWith f ask (s.end.asked + 1) s opened l (high_of_answer a) (ask_verdict reply)) log_is
               (subst (λ h. AnsweredWith f ask (s.end.asked + 1) s opened (log_of_reply reply) h (ask_verdict reply)) high_is
-              (opened_as f ask s (log_of_reply reply) (high_of_reply reply) (ask_verdict reply))),
+              (opened_as f ask s (place_of_reply reply) (log_of_reply reply) (high_of_reply reply) (ask_verdict reply))),
           λ it. ap ask_verdict there ∙ ap verdict_of tells,
         )
 
@@ -237,7 +238,7 @@ module _ (f : Frame) (ask : StreamAsk) (s : Served) where
       absent = λ none. (
         ask_verdict reply,
         subst (λ o. AnsweredWith f ask (s.end.asked + 1) s opened (log_of_reply o) (high_of_reply o) (ask_verdict reply)) none
-            (opened_as f ask s (log_of_reply reply) (high_of_reply reply) (ask_verdict reply)),
+            (opened_as f ask s (place_of_reply reply) (log_of_reply reply) (high_of_reply reply) (ask_verdict reply)),
         λ it. ap ask_verdict none,
       );
     }
@@ -252,7 +253,7 @@ module _ (f : Frame) (ask : StreamAsk) (s : Served) where
           verdict reply,
           subst (λ l. AnsweredWith f ask s.end.asked s refused l (high_of_answer a) (verdict reply)) log_is
               (subst (λ h. AnsweredWith f ask s.end.asked s refused (log_of_reply reply) h (verdict reply)) high_is
-              (refused_as f ask s (log_of_reply reply) (high_of_reply reply) (verdict reply))),
+              (refused_as f ask s (place_of_reply reply) (log_of_reply reply) (high_of_reply reply) (verdict reply))),
           λ it. for_it reply it ∙ ap ask_verdict there ∙ ap verdict_of tells,
         )
 
@@ -263,7 +264,7 @@ module _ (f : Frame) (ask : StreamAsk) (s : Served) where
       absent = λ none. (
         verdict reply,
         subst (λ o. AnsweredWith f ask s.end.asked s refused (log_of_reply o) (high_of_reply o) (verdict reply)) none
-            (refused_as f ask s (log_of_reply reply) (high_of_reply reply) (verdict reply)),
+            (refused_as f ask s (place_of_reply reply) (log_of_reply reply) (high_of_reply reply) (verdict reply)),
         λ it. for_it reply it ∙ ap ask_verdict none,
       );
     }
@@ -375,7 +376,7 @@ module _ (f : Frame) (ask : StreamAsk) (s : Served) (states : States) where
     answered =
         subst (λ b. AnsweredWith f ask (s.end.asked + 1) s (after (if b then opening_requested f ask s else refusal_requested f ask s) states).1 (log_of_reply (reply (next_stream s.end))) (high_of_reply (reply (next_stream s.end))) (ask_answer.Refuse code)) (sym is)
         (subst (AnsweredWith f ask (s.end.asked + 1) s (opened_answered f ask s (reply (next_stream s.end))) (log_of_reply (reply (next_stream s.end))) (high_of_reply (reply (next_stream s.end)))) refused
-        (opened_as f ask s (log_of_reply (reply (next_stream s.end))) (high_of_reply (reply (next_stream s.end))) (ask_verdict (reply (next_stream s.end)))));
+        (opened_as f ask s (place_of_reply (reply (next_stream s.end))) (log_of_reply (reply (next_stream s.end))) (high_of_reply (reply (next_stream s.end))) (ask_verdict (reply (next_stream s.end)))));
   }
 
   none_refused_so : (code : ℕ) → opens s.end f.vb_or_status ask ≡ false → verdict f ask s (reply 0) ≡ ask_answer.Refuse code → RefusedWith code f ask s states
@@ -390,7 +391,7 @@ module _ (f : Frame) (ask : StreamAsk) (s : Served) (states : States) where
     answered =
         subst (λ b. AnsweredWith f ask s.end.asked s (after (if b then opening_requested f ask s else refusal_requested f ask s) states).1 (log_of_reply (reply 0)) (high_of_reply (reply 0)) (ask_answer.Refuse code)) (sym is)
         (subst (AnsweredWith f ask s.end.asked s (refused_answered f ask s (reply 0)) (log_of_reply (reply 0)) (high_of_reply (reply 0))) refused
-        (refused_as f ask s (log_of_reply (reply 0)) (high_of_reply (reply 0)) (verdict f ask s (reply 0))));
+        (refused_as f ask s (place_of_reply (reply 0)) (log_of_reply (reply 0)) (high_of_reply (reply 0)) (verdict f ask s (reply 0))));
   }
 
   -- by the producer itself
@@ -472,7 +473,7 @@ module _ (f : Frame) (ask : StreamAsk) (s : Served) (states : States) where
 
       own_line : (verdict : AskAnswer) (asked : ℕ) (log : List LogEntry) (high : ℕ) → AnsweredWith f ask asked s (after (opening_requested f ask s) states).1 log high verdict → verdict ≡ ask_verdict (reply (next_stream s.end))
       own_line verdict asked log high answered =
-          let actual = opened_as f ask s (log_of_reply (reply (next_stream s.end))) (high_of_reply (reply (next_stream s.end))) (ask_verdict (reply (next_stream s.end))) in
+          let actual = opened_as f ask s (place_of_reply (reply (next_stream s.end))) (log_of_reply (reply (next_stream s.end))) (high_of_reply (reply (next_stream s.end))) (ask_verdict (reply (next_stream s.end))) in
           same_verdict verdict (ask_verdict (reply (next_stream s.end))) log (log_of_reply (reply (next_stream s.end))) high (high_of_reply (reply (next_stream s.end)))
           (append_cancel_left s.events _ _ (sym answered.line ∙ actual.line))
 

@@ -5,8 +5,14 @@ use Rattle.std.specs.List.{All, list_any, position, remove}
 use Rattle.std.proofs.lemmas.List.{length-append}
 use Rattle.std.proofs.lemmas.List.Elements.{All-head, All-tail, All-nil, All-cons, All-push}
 use Rattle.mcbp_frame.specs.declared.frame.Frame.{Frame}
+use Rattle.vb_types.specs.declared.stream.Place.{Place}
 use Rattle.vb_types.specs.declared.stream.StreamAsk.{StreamAsk}
-use Rattle.vb_calls.specs.Programs.{AnyCall, Always, Made, Told}
+use Rattle.vb_calls.specs.Jobs.{AlwaysJob, IsRead}
+use Rattle.vb_calls.specs.Programs.{AnyCall, AnyReply, Always, Made}
+use Rattle.vb_told.specs.Told.{ToldJob}
+use Rattle.vb_told.proofs.Walks.{always_told_job}
+use Rattle.dcp_producer.specs.Pairs.{AnyChange, IsOneOf, PullsPairs}
+use Rattle.dcp_producer.proofs.Pairs.{any_pairs}
 use Rattle.flow_control.specs.declared.window.Window.{Window}
 use Rattle.flow_control.specs.Rings.{closed}
 use Rattle.dcp_producer.specs.declared.desk.Desk.{Desk}
@@ -24,8 +30,8 @@ use Rattle.dcp_producer.specs.Having.{NoneOf, AreOfOthers, IsSound, AnswersSound
 use Rattle.dcp_producer.proofs.Kept.{kept_less, kept_ended, kept_heard}
 use Rattle.dcp_producer.proofs.Closing.{length_ids, sound_kept}
 use Rattle.dcp_producer.proofs.Answering.{Stays, stays_answered}
-use Rattle.dcp_producer.proofs.Walking.{Ends, ends_all, ends_full, ends_quiet, always_told}
-use Rattle.dcp_producer.proofs.Story.{Turns, Whole, pulls}
+use Rattle.dcp_producer.proofs.Walking.{Ends, ends_all, ends_full, ends_there, ends_quiet}
+use Rattle.dcp_producer.proofs.Story.{StopsSo, Turns, Whole, pulls}
 
 -- ---- a new connection
 
@@ -75,9 +81,9 @@ module _ (end : PlainProducer) (sound : IsSound end) where
     turn = sound.turn;
   }
 
-  sound_opened : (f : Frame) (ask : StreamAsk) → NoneOf f.vb_or_status end.streams → IsSound (with_opened (new_stream (next_stream end) f ask) (with_asked end))
-  sound_opened f ask none =
-      let x : PlainStream = new_stream (next_stream end) f ask in
+  sound_opened : (f : Frame) (ask : StreamAsk) (sync : Bool) (from : Place) → NoneOf f.vb_or_status end.streams → IsSound (with_opened (new_stream (next_stream end) f ask sync from) (with_asked end))
+  sound_opened f ask sync from none =
+      let x : PlainStream = new_stream (next_stream end) f ask sync from in
       let long : length (end.streams ++ x ∷ []) ≡ length end.streams + 1 = length-append end.streams (x ∷ []) in
       let turn : end.turn ≤ length end.streams = sound.turn in
       record {
@@ -213,7 +219,7 @@ module _ (f : Frame) (s : Served) (sound : IsSound s.end) where
     shaken = λ h. sound_shaken s.end h sound;
     window = λ w. sound_window s.end w sound;
     asked = sound_asked s.end sound;
-    opened = λ ask none. sound_opened s.end sound f ask none;
+    opened = λ ask sync from none. sound_opened s.end sound f ask sync from none;
     taken = λ is. sound_heard f.opaque s.end sound;
     without = λ stream there. sound_without s.end stream.id sound;
   }
@@ -224,13 +230,14 @@ module _ (f : Frame) (s : Served) (sound : IsSound s.end) where
 -- ---- pulls
 
 module _ (k : ℕ) (s : Served) (sound : IsSound s.end) where
-  ended_sound : (made : List Made) (left : Served) (halted : Halt) → Ends (Whole s) (Turns s) k made left halted → IsSound left.end
+  ended_sound : (made : List Made) (left : Served) (halted : Halt) → Ends (Whole s) (Turns s) (StopsSo s) k made left halted → IsSound left.end
   ended_sound made left halted (ends_all p story same is) = subst (λ (t : Served). IsSound t.end) same story.sound
   ended_sound made left halted (ends_full n p low story shut same is) = subst (λ (t : Served). IsSound t.end) same story.sound
+  ended_sound made left halted (ends_there n p low stopped same) = subst (λ (t : Served). IsSound t.end) same stopped.1.story.sound
   ended_sound made left halted (ends_quiet n p0 p low free turns same is) = subst (λ (t : Served). IsSound t.end) same turns.story.sound
 
-  pulled_sound : (made : List Made) (r : Served × Halt) → Told (frames_put k s) made r → PullsSound r
+  pulled_sound : (made : List Made) (r : Served × Halt) → ToldJob (frames_put k s) made r → PullsSound r
   pulled_sound made (left, halted) told = ended_sound made left halted (pulls s k made left halted sound told)
 
-  pub sound_pulls : Always AnyCall PullsSound (frames_put k s)
-  sound_pulls = always_told PullsSound (frames_put k s) pulled_sound
+  pub sound_pulls : AlwaysJob AnyReply AnyCall IsRead PullsSound (frames_put k s)
+  sound_pulls = always_told_job AnyCall IsRead (PullsPairs (IsOneOf AnyChange s.end.streams) k s) PullsSound (frames_put k s) (any_pairs k s) pulled_sound

@@ -1,6 +1,7 @@
 -- what a pull does, try by try
 use Rattle.std.proofs.Common.{◌≡◌, ◌≢◌, ◌⊎◌, ◌+◌, ◌<◌, ◌≤◌, ℕ, suc, Bool, true, false, List, [], ◌∷◌, ◌++◌, length, map, refl, sym, ap, ◌∙◌, subst, inl, inr, append-nil, append_assoc, arith, Some, None}
-use Rattle.std.specs.Prelude.{if◌then◌else◌, ◌==◌}
+use Rattle.std.specs.Prelude.{if◌then◌else◌, ◌==◌, ◌||◌}
+use Rattle.std.proofs.lemmas.Bool.{false≢true}
 use Rattle.std.specs.List.{All, concat}
 use Rattle.std.proofs.lemmas.Bool.Decides.{nat_tests}
 use Rattle.std.proofs.lemmas.List.{map-append, length-append}
@@ -12,10 +13,14 @@ use Rattle.mcbp_dcp.specs.DcpFrames.{dcp_frame}
 use Rattle.vb_events.specs.declared.event.Event.{Event}
 use Rattle.vb_events.specs.declared.event.Event.TheVariants as event
 use Rattle.vb_events.specs.declared.event.StreamName.{StreamName}
-use Rattle.vb_calls.specs.Programs.{Made, Told, AnyCall}
+use Rattle.vb_calls.specs.Jobs.{IsRead}
+use Rattle.vb_calls.specs.Programs.{Made, AnyCall}
+use Rattle.vb_told.specs.Told.{ToldJob}
+use Rattle.vb_told.proofs.Walks.{told_always_job}
 use Rattle.flow_control.specs.declared.window.Window.{Window}
 use Rattle.flow_control.specs.Windows.{is_open, with_put}
 use Rattle.dcp_producer.specs.declared.halt.Halt.{Halt}
+use Rattle.dcp_producer.specs.declared.halt.Halt.TheVariants as halt
 use Rattle.dcp_producer.specs.declared.next_frame.NextFrame.{NextFrame}
 use Rattle.dcp_producer.specs.declared.next_frame.NextFrame.TheVariants as next
 use Rattle.dcp_producer.specs.declared.next_frame.Waits.{Waits}
@@ -25,14 +30,15 @@ use Rattle.dcp_producer.specs.Producers.{PlainStream, PlainProducer, Served, wit
 use Rattle.dcp_producer.specs.Pulling.{QuietOnes, first_wait, none_quiet, with_quiet, is_quiet, Pulling, pull_of, past_turn, stream_in_turn, frame_put, end_put, stream_went, came, frames_put}
 use Rattle.dcp_producer.specs.Holding.{Passes, PassAll}
 use Rattle.dcp_producer.specs.Having.{IsSound}
+use Rattle.dcp_producer.specs.Orders.{Stops}
 use Rattle.dcp_producer.specs.Turns.{turns_of, Tried, IsTold, standing_by, StandApart, waiting, TakeTurns, put_by, put_in, made_in, NextOrder, TurnsOn}
-use Rattle.dcp_producer.proofs.Framing.{Same, GoesOn, frame_kind, FrameCase, an_item, by_role, all_sent, it_waits, no_place, a_marker, nothing, all_up, a_state, awaits, no_take, frame_same, frame_told}
+use Rattle.dcp_producer.proofs.Framing.{Same, GoesOn, frame_same}
 use Rattle.dcp_producer.proofs.Turning.{InTurn, before, behind, in_turn, turn_is, turned_so, end_with, end_less, went_so, over_so, order_with, order_less, sound_with, sound_less}
-use Rattle.dcp_producer.proofs.Walking.{IsPassed, CameSo, Ends, told_always, walk}
-use Rattle.dcp_producer.proofs.Awake.{awake_in, awake_of, says_wait, awake_append, asleep, awake, quiet_then, awake_same, takes_more, stands_more, flat_map_more, wait_none, waits_in, waits_more, passes_more, frames_of, bytes_of, lines_of, bytes_more, orders_more}
+use Rattle.dcp_producer.proofs.Walking.{IsPassed, CameSo, Ends, walk}
+use Rattle.dcp_producer.proofs.Awake.{awake_in, awake_of, says_wait, stops_at, stops_in, any_more, or_false, awake_append, asleep, awake, quiet_then, awake_same, takes_more, stands_more, flat_map_more, wait_none, waits_in, waits_more, passes_more, frames_of, bytes_of, lines_of, bytes_more, orders_more}
 
--- what a pull did behind so many frames, where the order of turns was so when the last of them was put
-pub record Story (s : Served) (base : List PlainStream) (n : ℕ) (made : List Made) (p : Pulling) : Type 0 where
+-- what a pull did behind so many frames, and whether a journal couldn't be read, where the order of turns was so when the last of them was put
+pub record Story (s : Served) (base : List PlainStream) (n : ℕ) (stop : Bool) (made : List Made) (p : Pulling) : Type 0 where
   pub tries : List Tried
   pub turns : TakeTurns s.end.desk.stream (turns_of s.end) tries (awake_of p)
   pub order : TurnsOn (turns_of s.end) tries base
@@ -49,6 +55,7 @@ pub record Story (s : Served) (base : List PlainStream) (n : ℕ) (made : List M
   pub shaken : p.served.end.handshake ≡ s.end.handshake
   pub asked : p.served.end.asked ≡ s.end.asked
   pub waits : p.quiet.waits ≡ waits_in (λ t. says_wait t.next) tries
+  pub stops : stops_in tries ≡ stop
 
 -- the first of the turns were those of streams that are quiet
 pub record Rotated (i : ℕ) (base : List PlainStream) (p : Pulling) : Type 0 where
@@ -62,14 +69,42 @@ pub record Rotated (i : ℕ) (base : List PlainStream) (p : Pulling) : Type 0 wh
 -- behind so many turns for the next frame, in which no stream put one
 pub record Turns (s : Served) (n : ℕ) (p0 : Pulling) (i : ℕ) (made : List Made) (p : Pulling) : Type 0 where
   pub base : List PlainStream
-  pub story : Story s base n made p
+  pub story : Story s base n false made p
   pub free : is_open p.served.end.window ≡ true
-  pub same : p.served.end.streams ≡ p0.served.end.streams
+  pub same : length p.served.end.streams ≡ length p0.served.end.streams
   pub order : i ≤ length p0.served.end.streams → Rotated i base p
 
 -- between two frames
 abbrev pub Whole : Served → ℕ → List Made → Pulling → Type 0
-Whole s n made p = Story s (turns_of p.served.end) n made p
+Whole s n made p = Story s (turns_of p.served.end) n false made p
+
+-- behind a turn of one whose journal couldn't be read, which was the last one
+pub record Stopped (s : Served) (n : ℕ) (made : List Made) (p : Pulling) : Type 0 where
+  pub story : Story s (turns_of p.served.end) n true made p
+  pub free : is_open p.served.end.window ≡ true
+  pub last : Stops story.tries
+
+abbrev pub StopsSo : Served → ℕ → List Made → Pulling → Halt → Type 0
+StopsSo s n made p halted = (halted ≡ halt.Disk) × Stopped s n made p
+
+-- a turn behind others in which no journal couldn't be read is the last one in which one could not
+one_of_them : (xs : List Tried) (u : Tried) (back : List Tried) → [] ≡ xs ++ u ∷ back → ⊥
+one_of_them [] u back is = absurd (cc is)
+one_of_them (x ∷ xs) u back is = absurd (cc is)
+
+part_no : (a b : Bool) → (a || b) ≡ false → (a ≡ false) × (b ≡ false)
+part_no true b is = absurd (cc is)
+part_no false b is = (refl, is)
+
+last_stops : (tries : List Tried) (t : Tried) → stops_in tries ≡ false → Stops (tries ++ t ∷ [])
+last_stops [] t goes [] back u parts stops = cc parts
+last_stops [] t goes (x ∷ front) back u parts stops = absurd (one_of_them front u back (cc parts))
+last_stops (y ∷ tries) t goes [] back u parts stops =
+    let same : y ≡ u = cc parts in
+    let (first, more) = part_no (stops_at y.next) (stops_in tries) goes in
+    absurd (false≢true (sym first ∙ ap (λ (v : Tried). stops_at v.next) same ∙ ap stops_at stops))
+last_stops (y ∷ tries) t goes (x ∷ front) back u parts stops =
+    let (first, more) = part_no (stops_at y.next) (stops_in tries) goes in last_stops tries t more front back u (cc parts) stops
 
 module _ (s : Served) where
   abbrev name : StreamName
@@ -94,6 +129,7 @@ module _ (s : Served) where
     shaken = refl;
     asked = refl;
     waits = refl;
+    stops = refl;
   }
     where
       all_awake : (xs : List PlainStream) → awake_in none_quiet xs ≡ xs
@@ -101,9 +137,9 @@ module _ (s : Served) where
       all_awake (x ∷ xs) = ap (λ ys. x ∷ ys) (all_awake xs)
 
   -- the connection and the streams that wait are the same, but for whose turn it is
-  passed_story : (base : List PlainStream) (n : ℕ) (made : List Made) (p p' : Pulling) → Story s base n made p → (end : PlainProducer) → p' ≡ pull_of (record p.served { end = end }) p.quiet → awake_in p.quiet (turns_of end) ≡ awake_of p
-      → IsSound end → end.streams ≡ p.served.end.streams → end.desk ≡ p.served.end.desk → end.handshake ≡ p.served.end.handshake → end.asked ≡ p.served.end.asked → end.window ≡ p.served.end.window → Story s base n made p'
-  passed_story base n made p p' b end is same sound streams desk shaken asked window = subst (Story s base n made) (sym is) (record {
+  passed_story : (base : List PlainStream) (n : ℕ) (made : List Made) (p p' : Pulling) → Story s base n false made p → (end : PlainProducer) → p' ≡ pull_of (record p.served { end = end }) p.quiet → awake_in p.quiet (turns_of end) ≡ awake_of p
+      → IsSound end → end.streams ≡ p.served.end.streams → end.desk ≡ p.served.end.desk → end.handshake ≡ p.served.end.handshake → end.asked ≡ p.served.end.asked → end.window ≡ p.served.end.window → Story s base n false made p'
+  passed_story base n made p p' b end is same sound streams desk shaken asked window = subst (Story s base n false made) (sym is) (record {
     tries = b.tries;
     turns = subst (TakeTurns name (turns_of s.end) b.tries) (sym same) b.turns;
     order = b.order;
@@ -120,21 +156,23 @@ module _ (s : Served) where
     shaken = shaken ∙ b.shaken;
     asked = asked ∙ b.asked;
     waits = b.waits;
+    stops = b.stops;
   })
 
-  -- a stream was quiet
-  quiet_story : (base : List PlainStream) (n : ℕ) (made : List Made) (p : Pulling) → Story s base n made p → (end : PlainProducer) (t : Tried) (waits : Waits) (rest : List PlainStream)
+  -- a stream put no frame
+  none_story : (base base' : List PlainStream) (n : ℕ) (stop : Bool) (made : List Made) (p : Pulling) → Story s base n false made p → (end : PlainProducer) (q : QuietOnes) (t : Tried) (rest : List PlainStream)
       → (front back : List PlainStream) → p.served.end.streams ≡ front ++ t.stream ∷ back → end.streams ≡ standing_by t.next t.left front back
-      → awake_of p ≡ t.stream ∷ rest → IsTold name t → t.next ≡ next.Quiet waits → awake_in (with_quiet t.left.id waits p.quiet) (turns_of end) ≡ rest
+      → awake_of p ≡ t.stream ∷ rest → IsTold name t → put_by name t.next t.left ≡ [] → awake_in q (turns_of end) ≡ waiting t.next t.left rest → NextOrder t.next t.stream t.left base base'
+      → q.waits ≡ first_wait p.quiet.waits (says_wait t.next) → stops_at t.next ≡ stop
       → IsSound end → end.desk ≡ p.served.end.desk → end.handshake ≡ p.served.end.handshake → end.asked ≡ p.served.end.asked → end.window ≡ p.served.end.window
-      → Story s base n (made ++ t.made) (pull_of (record p.served { end = end }) (with_quiet t.left.id waits p.quiet))
-  quiet_story base n made p b end t waits rest front back stood stands first tells is same sound desk shaken asked window =
+      → Story s base' n stop (made ++ t.made) (pull_of (record p.served { end = end }) q)
+  none_story base base' n stop made p b end q t rest front back stood stands first tells is same on talks stop_is sound desk shaken asked window =
       let none : put_in name (b.tries ++ t ∷ []) ≡ put_in name b.tries =
-      flat_map_more (λ (u : Tried). put_by name u.next u.left) b.tries t ∙ ap (λ x. put_in name b.tries ++ put_by name x t.left) is ∙ append-nil (put_in name b.tries) in
+      flat_map_more (λ (u : Tried). put_by name u.next u.left) b.tries t ∙ ap (λ x. put_in name b.tries ++ x) is ∙ append-nil (put_in name b.tries) in
       record {
         tries = b.tries ++ t ∷ [];
-        turns = subst (TakeTurns name (turns_of s.end) (b.tries ++ t ∷ [])) (ap (λ x. waiting x t.left rest) is ∙ sym same) (takes_more name (turns_of s.end) b.tries (awake_of p) rest t b.turns first tells);
-        order = orders_more (turns_of s.end) b.tries base base t b.order (subst (λ x. NextOrder x t.stream t.left base base) (sym is) refl);
+        turns = subst (TakeTurns name (turns_of s.end) (b.tries ++ t ∷ [])) (sym same) (takes_more name (turns_of s.end) b.tries (awake_of p) rest t b.turns first tells);
+        order = orders_more (turns_of s.end) b.tries base base' t b.order on;
         stand = stands_more s.end.streams b.tries p.served.end.streams end.streams t front back b.stand stood stands;
         calls = ap (λ ms. ms ++ t.made) b.calls ∙ sym (flat_map_more (λ (u : Tried). u.made) b.tries t);
         many = ap length none ∙ b.many;
@@ -147,20 +185,19 @@ module _ (s : Served) where
         desk = desk ∙ b.desk;
         shaken = shaken ∙ b.shaken;
         asked = asked ∙ b.asked;
-        waits =
-            ap (λ w. first_wait w waits) b.waits
-            ∙ sym (waits_more (λ (u : Tried). says_wait u.next) b.tries t ∙ ap (λ x. first_wait (waits_in (λ (u : Tried). says_wait u.next) b.tries) (says_wait x)) is);
+        waits = talks ∙ ap (λ w. first_wait w (says_wait t.next)) b.waits ∙ sym (waits_more (λ (u : Tried). says_wait u.next) b.tries t);
+        stops = any_more (λ (u : Tried). stops_at u.next) b.tries t ∙ (λ i. b.stops i || (stop_is i || false)) ∙ or_false stop;
       }
 
   -- a stream put a frame, or its end
-  put_story : (base : List PlainStream) (n : ℕ) (made : List Made) (p : Pulling) → Story s base n made p → (end : PlainProducer) (t : Tried) (f : Frame) (line : Event) (rest : List PlainStream)
+  put_story : (base : List PlainStream) (n : ℕ) (made : List Made) (p : Pulling) → Story s base n false made p → (end : PlainProducer) (t : Tried) (f : Frame) (line : Event) (rest : List PlainStream)
       → (front back : List PlainStream) → p.served.end.streams ≡ front ++ t.stream ∷ back → end.streams ≡ standing_by t.next t.left front back
-      → awake_of p ≡ t.stream ∷ rest → IsTold name t → put_by name t.next t.left ≡ (f, line) ∷ [] → says_wait t.next ≡ wait.Nothing → awake_in p.quiet (turns_of end) ≡ waiting t.next t.left rest
+      → awake_of p ≡ t.stream ∷ rest → IsTold name t → put_by name t.next t.left ≡ (f, line) ∷ [] → says_wait t.next ≡ wait.Nothing → stops_at t.next ≡ false → awake_in p.quiet (turns_of end) ≡ waiting t.next t.left rest
       → NextOrder t.next t.stream t.left base (turns_of end)
       → IsSound end → end.desk ≡ p.served.end.desk → end.handshake ≡ p.served.end.handshake → end.asked ≡ p.served.end.asked → Passes (length (spelling f)) p.served.end.window end.window
-      → Story s (turns_of end) (suc n) (made ++ t.made)
+      → Story s (turns_of end) (suc n) false (made ++ t.made)
       (pull_of (record { end = end; events = p.served.events ++ line ∷ []; out = p.served.out ++ spelling f; count = p.served.count + 1; resolved = p.served.resolved }) p.quiet)
-  put_story base n made p b end t f line rest front back stood stands first tells is talks same on sound desk shaken asked window =
+  put_story base n made p b end t f line rest front back stood stands first tells is talks goes same on sound desk shaken asked window =
       let one : put_in name (b.tries ++ t ∷ []) ≡ put_in name b.tries ++ (f, line) ∷ [] =
       flat_map_more (λ (u : Tried). put_by name u.next u.left) b.tries t ∙ ap (λ x. put_in name b.tries ++ x) is in
       let count = b.count in
@@ -187,6 +224,7 @@ module _ (s : Served) where
         asked = asked ∙ b.asked;
         waits = b.waits
             ∙ sym (waits_more (λ (u : Tried). says_wait u.next) b.tries t ∙ ap (first_wait (waits_in (λ (u : Tried). says_wait u.next) b.tries)) talks ∙ wait_none (waits_in (λ (u : Tried). says_wait u.next) b.tries));
+        stops = any_more (λ (u : Tried). stops_at u.next) b.tries t ∙ (λ i. b.stops i || (goes i || false));
       }
 
 -- ---- along the walk
@@ -195,20 +233,6 @@ module _ (s : Served) where
 passes : (w : Window) (len : ℕ) (b : Bool) → (w.size == 0) ≡ b → is_open w ≡ true → Passes len w (if b then w else record w { outstanding = w.outstanding + len })
 passes w len true none free = (refl, inl (grind (arith, nat_tests), refl))
 passes w len false some free = (refl, inr (grind (arith, nat_tests), refl))
-
--- a stream that is quiet stays as it is
-quiet_stays : (link : StreamName) (stream : PlainStream) (made : List Made) (waits : Waits) (left : PlainStream) → FrameCase link stream made (next.Quiet waits, left) → left ≡ stream
-quiet_stays link stream made waits left (an_item c there none is) = absurd (let e : 2 ≡ 0 = ap (λ (x : Next). frame_kind x.0) is in omega (arith, e))
-quiet_stays link stream made waits left (by_role put ended none is) = absurd (let e : 2 ≡ 1 = ap (λ (x : Next). frame_kind x.0) is in omega (arith, e))
-quiet_stays link stream made waits left (all_sent put alive reached reply none is) = absurd (let e : 2 ≡ 1 = ap (λ (x : Next). frame_kind x.0) is in omega (arith, e))
-quiet_stays link stream made waits left (it_waits more reply said calls is) = ap (λ (x : Next). x.1) is
-quiet_stays link stream made waits left (no_place more reply said calls is) = absurd (let e : 2 ≡ 1 = ap (λ (x : Next). frame_kind x.0) is in omega (arith, e))
-quiet_stays link stream made waits left (a_marker more from reply snapshot said tells calls is) = absurd (let e : 2 ≡ 0 = ap (λ (x : Next). frame_kind x.0) is in omega (arith, e))
-quiet_stays link stream made waits left (nothing more none from reply said tells calls is) = ap (λ (x : Next). x.1) is
-quiet_stays link stream made waits left (all_up more g gives told at from reply said tells calls is) = absurd (let e : 2 ≡ 0 = ap (λ (x : Next). frame_kind x.0) is in omega (arith, e))
-quiet_stays link stream made waits left (a_state put alive g gives told at none is) = absurd (let e : 2 ≡ 0 = ap (λ (x : Next). frame_kind x.0) is in omega (arith, e))
-quiet_stays link stream made waits left (awaits put alive g gives at none is) = ap (λ (x : Next). x.1) is
-quiet_stays link stream made waits left (no_take more from reply said no_snapshot some calls is) = absurd (let e : 2 ≡ 1 = ap (λ (x : Next). frame_kind x.0) is in omega (arith, e))
 
 empty_or : (xs : List PlainStream) → (xs ≡ []) ⊎ (0 < length xs)
 empty_or [] = inl refl
@@ -248,7 +272,7 @@ module _ (s : Served) where
           story = b.story;
           free = b.free;
           same = b.same;
-          order = λ low. let e : length p0.served.end.streams ≡ 0 = ap length (sym b.same ∙ none) in absurd (omega (arith, low, e));
+          order = λ low. let e : length p0.served.end.streams ≡ 0 = sym b.same ∙ ap length none in absurd (omega (arith, low, e));
         })
 
     module _ (it : InTurn p.served.end) where
@@ -259,7 +283,7 @@ module _ (s : Served) where
       long =
           let one : length (it.front ++ it.stream ∷ it.back) ≡ length it.front + suc (length it.back) = length-append it.front (it.stream ∷ it.back) in
           let two : length (it.back ++ it.front) ≡ length it.back + length it.front = length-append it.back it.front in
-          let three : length (it.front ++ it.stream ∷ it.back) ≡ length p0.served.end.streams = ap length (sym it.stands ∙ b.same) in
+          let three : length (it.front ++ it.stream ∷ it.back) ≡ length p0.served.end.streams = ap length (sym it.stands) ∙ b.same in
           omega (arith, one, two, three)
 
       weaker : (q : QuietOnes) → ((stream : PlainStream) → is_quiet stream.id p.quiet ≡ true → is_quiet stream.id q ≡ true)
@@ -270,22 +294,30 @@ module _ (s : Served) where
           (weaker q stays xs (All-tail (λ (stream : PlainStream). is_quiet stream.id p.quiet ≡ true) x xs all))
 
       -- behind a turn in which it was quiet, before or now
-      order_on : (p' : Pulling) → turns_of p'.served.end ≡ rest ++ it.stream ∷ [] → is_quiet it.stream.id p'.quiet ≡ true
-          → ((stream : PlainStream) → is_quiet stream.id p.quiet ≡ true → is_quiet stream.id p'.quiet ≡ true) → suc i ≤ length p0.served.end.streams → Rotated (suc i) b.base p'
-      order_on p' is quiet stays low =
+      order_on : (left : PlainStream) (p' : Pulling) → turns_of p'.served.end ≡ rest ++ left ∷ [] → is_quiet left.id p'.quiet ≡ true
+          → ((stream : PlainStream) → is_quiet stream.id p.quiet ≡ true → is_quiet stream.id p'.quiet ≡ true) → suc i ≤ length p0.served.end.streams
+          → (front : List PlainStream) × (back : List PlainStream) × (b.base ≡ front ++ it.stream ∷ back) × Rotated (suc i) (front ++ left ∷ back) p'
+      order_on left p' is quiet stays low =
           let before = b.order (omega (arith, low)) in
           let at = before.at in
-          let (todo, left, begins) = next_todo before.todo before.done rest it.stream i (length p0.served.end.streams) (sym before.is ∙ it.order) at low long in
-          let more : length (before.done ++ it.stream ∷ []) ≡ length before.done + 1 = length-append before.done (it.stream ∷ []) in
-          record {
-            todo = todo;
-            done = before.done ++ it.stream ∷ [];
-            at = omega (arith, more, at);
-            from = before.from ∙ ap (λ xs. before.done ++ xs) begins ∙ sym (append_assoc before.done (it.stream ∷ []) todo);
-            is = is ∙ ap (λ xs. xs ++ it.stream ∷ []) left ∙ append_assoc todo before.done (it.stream ∷ []);
-            quiet = All-append (λ (stream : PlainStream). is_quiet stream.id p'.quiet ≡ true) before.done (it.stream ∷ [])
-                (weaker p'.quiet stays before.done before.quiet) (All-cons (λ (stream : PlainStream). is_quiet stream.id p'.quiet ≡ true) it.stream [] quiet (All-nil (λ (stream : PlainStream). is_quiet stream.id p'.quiet ≡ true)));
-          }
+          let (todo, behind_it, begins) = next_todo before.todo before.done rest it.stream i (length p0.served.end.streams) (sym before.is ∙ it.order) at low long in
+          let more : length (before.done ++ left ∷ []) ≡ length before.done + 1 = length-append before.done (left ∷ []) in (
+            before.done,
+            todo,
+            before.from ∙ ap (λ xs. before.done ++ xs) begins,
+            record {
+              todo = todo;
+              done = before.done ++ left ∷ [];
+              at = omega (arith, more, at);
+              from = sym (append_assoc before.done (left ∷ []) todo);
+              is = is ∙ ap (λ xs. xs ++ left ∷ []) behind_it ∙ append_assoc todo before.done (left ∷ []);
+              quiet = All-append (λ (stream : PlainStream). is_quiet stream.id p'.quiet ≡ true) before.done (left ∷ [])
+                  (weaker p'.quiet stays before.done before.quiet) (All-cons (λ (stream : PlainStream). is_quiet stream.id p'.quiet ≡ true) left [] quiet (All-nil (λ (stream : PlainStream). is_quiet stream.id p'.quiet ≡ true)));
+            },
+          )
+
+      as_long : (left : PlainStream) → length (it.front ++ left ∷ it.back) ≡ length p0.served.end.streams
+      as_long left = length-append it.front (left ∷ it.back) ∙ sym (length-append it.front (it.stream ∷ it.back)) ∙ ap length (sym it.stands) ∙ b.same
 
       itself : Same it.stream it.stream
       itself = record { id = refl; vb = refl; opaque = refl; until = refl; ended = refl }
@@ -311,35 +343,36 @@ module _ (s : Served) where
             base = b.base;
             story = passed_story s b.base n made p (pull_of (record p.served { end = after it.stream }) p.quiet) b.story (after it.stream) refl waits (sound_with p.served.end sound it it.stream itself) (sym it.stands) refl refl refl refl;
             free = b.free;
-            same = sym it.stands ∙ b.same;
-            order = order_on (pull_of (record p.served { end = after it.stream }) p.quiet) order quiet (λ stream so. so);
+            same = as_long it.stream;
+            order = λ low.
+                let (front, back, stands, turned) = order_on it.stream (pull_of (record p.served { end = after it.stream }) p.quiet) order quiet (λ stream so. so) low in
+                subst (λ base. Rotated (suc i) base (pull_of (record p.served { end = after it.stream }) p.quiet)) (sym stands) turned;
           })
 
       -- it was asked
-      module _ (fresh : is_quiet it.stream.id p.quiet ≡ false) (more : List Made) (told : (x : NextFrame) (left : PlainStream) → Told (next_frame p.served.end.desk.stream it.stream) more (x, left) → Told (next_frame s.end.desk.stream it.stream) more (x, left)) where
+      module _ (fresh : is_quiet it.stream.id p.quiet ≡ false) (more : List Made) (told : (x : NextFrame) (left : PlainStream) → ToldJob (next_frame p.served.end.desk.stream it.stream) more (x, left) → ToldJob (next_frame s.end.desk.stream it.stream) more (x, left)) where
         first : awake_of p ≡ it.stream ∷ awake_in p.quiet rest
         first = ap (awake_in p.quiet) it.order ∙ awake p.quiet it.stream rest fresh
 
-        asked_quiet : (waits : Waits) (left : PlainStream) → left ≡ it.stream → Told (next_frame p.served.end.desk.stream it.stream) more (next.Quiet waits, left)
+        asked_quiet : (waits : Waits) (left : PlainStream) → suc i ≤ length p0.served.end.streams → Same it.stream left → ToldJob (next_frame p.served.end.desk.stream it.stream) more (next.Quiet waits, left)
             → Turns s n p0 (suc i) (made ++ more) (pull_of (stream_went left (past_turn p.served)) (with_quiet left.id waits p.quiet))
-        asked_quiet waits left is tells =
-            let p' : Pulling = pull_of (record p.served { end = after it.stream }) (with_quiet it.stream.id waits p.quiet) in
-            let comes : pull_of (stream_went left (past_turn p.served)) (with_quiet left.id waits p.quiet) ≡ p' =
-            (λ j. pull_of (stream_went (is j) (past_turn p.served)) (with_quiet (is j).id waits p.quiet))
-            ∙ ap (λ e. pull_of (record p.served { end = e }) (with_quiet it.stream.id waits p.quiet)) (went_so p.served.end sound it it.stream itself) in
-            let order : turns_of (after it.stream) ≡ rest ++ it.stream ∷ [] = order_with p.served.end sound it it.stream itself in
-            let now : is_quiet it.stream.id p'.quiet ≡ true = quiet_then p.quiet it.stream.id waits it.stream.id (inr refl) in
-            let left_awake : awake_in p'.quiet (turns_of (after it.stream)) ≡ awake_in p.quiet rest =
-            ap (awake_in p'.quiet) order ∙ awake_append p'.quiet rest (it.stream ∷ []) ∙ ap (λ xs. awake_in p'.quiet rest ++ xs) (asleep p'.quiet it.stream [] now) ∙ append-nil (awake_in p'.quiet rest)
-            ∙ awake_same p.quiet it.stream.id waits rest others_differ in
-            subst (Turns s n p0 (suc i) (made ++ more)) (sym comes) (record {
-              base = b.base;
-              story = quiet_story s b.base n made p b.story (after it.stream) (record { stream = it.stream; made = more; next = next.Quiet waits; left = it.stream }) waits (awake_in p.quiet rest)
-                  it.front it.back it.stands refl first (subst (λ l. Told (next_frame s.end.desk.stream it.stream) more (next.Quiet waits, l)) is (told (next.Quiet waits) left tells)) refl left_awake
-                  (sound_with p.served.end sound it it.stream itself) refl refl refl refl;
+        asked_quiet waits left low same tells =
+            let q : QuietOnes = with_quiet left.id waits p.quiet in
+            let p' : Pulling = pull_of (record p.served { end = after left }) q in
+            let order : turns_of (after left) ≡ rest ++ left ∷ [] = order_with p.served.end sound it left same in
+            let now : is_quiet left.id q ≡ true = quiet_then p.quiet left.id waits left.id (inr refl) in
+            let left_awake : awake_in q (turns_of (after left)) ≡ awake_in p.quiet rest =
+            ap (awake_in q) order ∙ awake_append q rest (left ∷ []) ∙ ap (λ xs. awake_in q rest ++ xs) (asleep q left [] now) ∙ append-nil (awake_in q rest)
+            ∙ awake_same p.quiet left.id waits rest (subst (λ n. All (λ (stream : PlainStream). stream.id ≢ n) rest) (sym same.id) others_differ) in
+            let (front, back, stands, turned) = order_on left p' order now (λ stream so. quiet_then p.quiet left.id waits stream.id (inl so)) low in
+            subst (Turns s n p0 (suc i) (made ++ more)) (ap (λ e. pull_of (record p.served { end = e }) q) (sym (went_so p.served.end sound it left same))) (record {
+              base = front ++ left ∷ back;
+              story = none_story s b.base (front ++ left ∷ back) n false made p b.story (after left) q (record { stream = it.stream; made = more; next = next.Quiet waits; left = left }) (awake_in p.quiet rest)
+                  it.front it.back it.stands refl first (told (next.Quiet waits) left tells) refl left_awake (front, back, stands, refl) refl refl
+                  (sound_with p.served.end sound it left same) refl refl refl refl;
               free = b.free;
-              same = sym it.stands ∙ b.same;
-              order = order_on p' order now (λ stream so. quiet_then p.quiet it.stream.id waits stream.id (inl so));
+              same = as_long left;
+              order = λ low'. turned;
             })
 
         -- the order of turns when the last frame was put has those that were quiet since before this stream, and those that had no turn yet behind it
@@ -358,7 +391,7 @@ module _ (s : Served) where
         its_rest : suc i ≤ length p0.served.end.streams → {order : List PlainStream} → order ≡ rest → (front : List PlainStream) × (back : List PlainStream) × (b.base ≡ front ++ it.stream ∷ back) × (order ≡ back ++ front)
         its_rest low is = let (front, back, stands, same) = splits low in (front, back, stands, is ∙ same)
 
-        asked_put : (m : _) (line : Event) (left : PlainStream) → suc i ≤ length p0.served.end.streams → Same it.stream left → Told (next_frame p.served.end.desk.stream it.stream) more (next.Put m line, left)
+        asked_put : (m : _) (line : Event) (left : PlainStream) → suc i ≤ length p0.served.end.streams → Same it.stream left → ToldJob (next_frame p.served.end.desk.stream it.stream) more (next.Put m line, left)
             → Whole s (suc n) (made ++ more) (pull_of (frame_put (dcp_frame m left.opaque left.vb) line (stream_went left (past_turn p.served))) p.quiet)
         asked_put m line left low same tells =
             let f : Frame = dcp_frame m left.opaque left.vb in
@@ -370,10 +403,10 @@ module _ (s : Served) where
             let after_sound = sound_with p.served.end sound it left same in
             subst (λ e. Whole s (suc n) (made ++ more) (pull_of (frame_put f line (record p.served { end = e })) p.quiet)) (sym (went_so p.served.end sound it left same))
             (put_story s b.base n made p b.story end' (record { stream = it.stream; made = more; next = next.Put m line; left = left }) f line (awake_in p.quiet rest)
-            it.front it.back it.stands refl first (told (next.Put m line) left tells) refl refl waits (its_order low left order) (record { apart = after_sound.apart; rise = after_sound.rise; numbered = after_sound.numbered; turn = after_sound.turn })
+            it.front it.back it.stands refl first (told (next.Put m line) left tells) refl refl refl waits (its_order low left order) (record { apart = after_sound.apart; rise = after_sound.rise; numbered = after_sound.numbered; turn = after_sound.turn })
             refl refl refl (passes p.served.end.window (length (spelling f)) (p.served.end.window.size == 0) refl b.free))
 
-        asked_end : (reason : ℕ) (left : PlainStream) → suc i ≤ length p0.served.end.streams → Same it.stream left → Told (next_frame p.served.end.desk.stream it.stream) more (next.End reason, left)
+        asked_end : (reason : ℕ) (left : PlainStream) → suc i ≤ length p0.served.end.streams → Same it.stream left → ToldJob (next_frame p.served.end.desk.stream it.stream) more (next.End reason, left)
             → Whole s (suc n) (made ++ more) (pull_of (end_put left reason (stream_went left (past_turn p.served))) p.quiet)
         asked_end reason left low same tells =
             let f : Frame = dcp_frame (msg.StreamEnd reason) left.opaque left.vb in
@@ -387,13 +420,38 @@ module _ (s : Served) where
             (subst (λ e. Whole s (suc n) (made ++ more) (pull_of (frame_put f (event.Finished p.served.end.desk.stream reason) (record p.served { end = e })) p.quiet)) (sym (over_so p.served.end sound it left same))
             (subst (λ l. Whole s (suc n) (made ++ more) (pull_of (frame_put f l (record p.served { end = less })) p.quiet)) line
             (put_story s b.base n made p b.story end' (record { stream = it.stream; made = more; next = next.End reason; left = left }) f (event.Finished s.end.desk.stream reason) (awake_in p.quiet rest)
-            it.front it.back it.stands refl first (told (next.End reason) left tells) refl refl (ap (awake_in p.quiet) order) (its_rest low order) (record { apart = less_sound.apart; rise = less_sound.rise; numbered = less_sound.numbered; turn = less_sound.turn })
+            it.front it.back it.stands refl first (told (next.End reason) left tells) refl refl refl (ap (awake_in p.quiet) order) (its_rest low order) (record { apart = less_sound.apart; rise = less_sound.rise; numbered = less_sound.numbered; turn = less_sound.turn })
             refl refl refl (passes p.served.end.window (length (spelling f)) (p.served.end.window.size == 0) refl b.free))))
 
-        asked_so : (x : Next) → suc i ≤ length p0.served.end.streams → Told (next_frame p.served.end.desk.stream it.stream) more x → CameSo (Whole s) (Turns s) n p0 i (made ++ more) (came (past_turn p.served) p.quiet x)
-        asked_so (next.Put m line, left) low tells = asked_put m line left low (told_always AnyCall (GoesOn it.stream) (next_frame p.served.end.desk.stream it.stream) more (next.Put m line, left) (frame_same p.served.end.desk.stream it.stream) tells) tells
-        asked_so (next.End reason, left) low tells = asked_end reason left low (told_always AnyCall (GoesOn it.stream) (next_frame p.served.end.desk.stream it.stream) more (next.End reason, left) (frame_same p.served.end.desk.stream it.stream) tells) tells
-        asked_so (next.Quiet waits, left) low tells = asked_quiet waits left (quiet_stays p.served.end.desk.stream it.stream more waits left (frame_told p.served.end.desk.stream it.stream more (next.Quiet waits, left) tells)) tells
+        asked_disk : (left : PlainStream) → suc i ≤ length p0.served.end.streams → Same it.stream left → ToldJob (next_frame p.served.end.desk.stream it.stream) more (next.Disk, left)
+            → StopsSo s n (made ++ more) (pull_of (stream_went left (past_turn p.served)) p.quiet) halt.Disk
+        unfolding none_story
+        asked_disk left low same tells =
+            let t : Tried = record { stream = it.stream; made = more; next = next.Disk; left = left } in
+            let order : turns_of (after left) ≡ rest ++ left ∷ [] = order_with p.served.end sound it left same in
+            let still : is_quiet left.id p.quiet ≡ false = ap (λ n. is_quiet n p.quiet) same.id ∙ fresh in
+            let waits : awake_in p.quiet (turns_of (after left)) ≡ awake_in p.quiet rest ++ left ∷ [] =
+            ap (awake_in p.quiet) order ∙ awake_append p.quiet rest (left ∷ []) ∙ ap (λ xs. awake_in p.quiet rest ++ xs) (awake p.quiet left [] still) in
+            subst (λ e. StopsSo s n (made ++ more) (pull_of (record p.served { end = e }) p.quiet) halt.Disk) (sym (went_so p.served.end sound it left same)) (
+              refl,
+              record {
+                story = none_story s b.base (turns_of (after left)) n true made p b.story (after left) p.quiet t (awake_in p.quiet rest)
+                    it.front it.back it.stands refl first (told next.Disk left tells) refl waits (its_order low left order) (sym (wait_none p.quiet.waits)) refl
+                    (sound_with p.served.end sound it left same) refl refl refl refl;
+                free = b.free;
+                last = last_stops b.story.tries t b.story.stops;
+              },
+            )
+
+        goes_on : (x : Next) → ToldJob (next_frame p.served.end.desk.stream it.stream) more x → GoesOn it.stream x
+        goes_on x tells = told_always_job AnyCall IsRead (GoesOn it.stream) (next_frame p.served.end.desk.stream it.stream) more x (frame_same p.served.end.desk.stream it.stream) tells
+
+        asked_so : (x : Next) → suc i ≤ length p0.served.end.streams → ToldJob (next_frame p.served.end.desk.stream it.stream) more x
+            → CameSo (Whole s) (Turns s) (StopsSo s) n p0 i (made ++ more) (came (past_turn p.served) p.quiet x)
+        asked_so (next.Put m line, left) low tells = asked_put m line left low (goes_on (next.Put m line, left) tells) tells
+        asked_so (next.End reason, left) low tells = asked_end reason left low (goes_on (next.End reason, left) tells) tells
+        asked_so (next.Quiet waits, left) low tells = asked_quiet waits left low (goes_on (next.Quiet waits, left) tells) tells
+        asked_so (next.Disk, left) low tells = asked_disk left low (goes_on (next.Disk, left) tells) tells
 
     -- the turn is that of one, or there is none
     with_it : (p.served.end.streams ≡ [] → ⊥) → InTurn p.served.end
@@ -419,16 +477,16 @@ module _ (s : Served) where
     none_there stream there none = none_some stream (sym there ∙ (λ j. stream_in_turn (record p.served.end { streams = none j })))
 
     asks_so : (more : List Made) (stream : PlainStream) (x : Next) → suc i ≤ length p0.served.end.streams → stream_in_turn p.served.end ≡ Some stream → is_quiet stream.id p.quiet ≡ false
-        → Told (next_frame p.served.end.desk.stream stream) more x → CameSo (Whole s) (Turns s) n p0 i (made ++ more) (came (past_turn p.served) p.quiet x)
+        → ToldJob (next_frame p.served.end.desk.stream stream) more x → CameSo (Whole s) (Turns s) (StopsSo s) n p0 i (made ++ more) (came (past_turn p.served) p.quiet x)
     asks_so more stream x low there fresh tells =
         let it = with_it (none_there stream there) in
         let same : stream ≡ it.stream = some_same stream it.stream (sym there ∙ turn_is p.served.end b.story.sound it) in
         asked_so it (subst (λ (y : PlainStream). is_quiet y.id p.quiet ≡ false) same fresh) more
-        (λ y left. subst (λ d. Told (next_frame d.stream it.stream) more (y, left)) b.story.desk)
-        x low (subst (λ (y : PlainStream). Told (next_frame p.served.end.desk.stream y) more x) same tells)
+        (λ y left. subst (λ d. ToldJob (next_frame d.stream it.stream) more (y, left)) b.story.desk)
+        x low (subst (λ (y : PlainStream). ToldJob (next_frame p.served.end.desk.stream y) more x) same tells)
 
   -- each pull is such a story
-  pub pulls : (k : ℕ) (made : List Made) (left : Served) (halted : Halt) → IsSound s.end → Told (frames_put k s) made (left, halted) → Ends (Whole s) (Turns s) k made left halted
+  pub pulls : (k : ℕ) (made : List Made) (left : Served) (halted : Halt) → IsSound s.end → ToldJob (frames_put k s) made (left, halted) → Ends (Whole s) (Turns s) (StopsSo s) k made left halted
   pulls k made left halted sound told =
-      walk (Whole s) (Turns s) begin_turns (λ n p0 i ms p b passed. passes_so n p0 i ms p b passed) (λ n p0 i ms more p stream x low b. asks_so n p0 i ms p b more stream x low)
+      walk (Whole s) (Turns s) (StopsSo s) begin_turns (λ n p0 i ms p b passed. passes_so n p0 i ms p b passed) (λ n p0 i ms more p stream x low b. asks_so n p0 i ms p b more stream x low)
       k s made left halted (start s sound) told

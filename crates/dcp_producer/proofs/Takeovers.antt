@@ -1,5 +1,5 @@
 -- in which order a stream puts states
-use Rattle.std.proofs.Common.{◌≡◌, ◌↔◌, ◌⊎◌, ◌<◌, ℕ, false, List, [], refl, sym, ap, ◌∙◌, subst, inl, inr, arith, Some, None}
+use Rattle.std.proofs.Common.{◌≡◌, ◌↔◌, ◌⊎◌, ◌<◌, ℕ, false, List, [], length, refl, sym, ap, ◌∙◌, subst, inl, inr, arith, Some, None}
 use Rattle.std.specs.Prelude.{◌==◌}
 use Rattle.std.proofs.lemmas.Bool.{false≢true}
 use Rattle.mcbp_dcp.specs.declared.message.DcpMsg.TheVariants as msg
@@ -10,20 +10,21 @@ use Rattle.takeover.specs.declared.give_up.GiveStep.TheVariants as step
 use Rattle.takeover.specs.declared.give_up.GiveUp.{GiveUp}
 use Rattle.vb_types.specs.declared.role.Role.{Role}
 use Rattle.vb_types.specs.declared.role.Role.TheVariants as role
-use Rattle.vb_types.specs.declared.stream.Place.TheVariants as place
 use Rattle.vb_events.specs.declared.event.Event.{Event}
 use Rattle.vb_events.specs.declared.event.Event.TheVariants as event
 use Rattle.vb_events.specs.declared.event.StreamName.{StreamName}
 use Rattle.vb_calls.specs.declared.calls.VbAnswer.TheVariants as answer
-use Rattle.vb_calls.specs.Programs.{Made, Told}
+use Rattle.vb_calls.specs.Programs.{Made}
+use Rattle.vb_told.specs.Told.{ToldJob}
 use Rattle.dcp_producer.specs.declared.next_frame.NextFrame.{NextFrame}
 use Rattle.dcp_producer.specs.declared.next_frame.NextFrame.TheVariants as next
-use Rattle.dcp_producer.specs.Ends.{AskedTake, IsAt, IsBehind, IsSaid, Reaches}
+use Rattle.dcp_producer.specs.Ends.{AskedTake, IsAt, IsBehind, IsPromised, IsSaid, Reaches}
 use Rattle.dcp_producer.specs.Frames.{Next, next_frame, reaches_end, role_of}
 use Rattle.dcp_producer.specs.Producers.{PlainStream}
 use Rattle.dcp_producer.specs.Takeovers.{InOrder, IsUp, PutsNone, PutsState}
-use Rattle.dcp_producer.proofs.Framing.{FrameCase, IsSending, an_item, by_role, all_sent, it_waits, no_place, a_marker, nothing, all_up, a_state, awaits, no_take, frame_told}
-use Rattle.dcp_producer.proofs.Ends.{answer_tag, apart, asks_kind, asks_on, at_kind, awaits_at, clash, ends_so, is_sent, item_tag, kind_number, message_tag, kind_of, none_behind, one_two, quiet_so, said_so, same_reply, says_so, sent_kind, some_within, tag, take_reply, waits_kind}
+use Rattle.dcp_producer.proofs.Framing.{FrameCase, IsSending, an_item, by_role, all_sent, it_waits, no_place, a_marker, nothing, all_up, a_state, awaits, no_take, from_disk, no_disk, frame_told}
+use Rattle.dcp_producer.proofs.Dues.{answer_tag, apart, asks_kind, asks_on, at_kind, awaits_at, clash, is_sent, item_tag, kind_number, message_tag, kind_of, none_behind, one_two, promised_so, said_so, same_reply, says_so, sent_kind, some_within, tag, take_reply, take_said, waits_kind}
+use Rattle.dcp_producer.proofs.Ends.{ends_so, quiet_so}
 use Rattle.dcp_producer.proofs.Going.{ended_asks}
 
 -- all was sent, or a state is put without a call
@@ -153,6 +154,11 @@ module _ (name : StreamName) (stream : PlainStream) (made : List Made) (x : Next
   gives_none none (inr (inl (fifth, up))) = absurd (let e : None ≡ Some fifth.0 = sym none ∙ fifth.1 in cc e)
   gives_none none (inr (inr (sixth, up))) = absurd (let e : None ≡ Some sixth.0 = sym none ∙ sixth.1 in cc e)
 
+  -- where a backfill was to be read, its vBucket was not asked for more
+  not_up : (end : ℕ) → IsPromised stream made end → IsUp stream made → ⊥
+  not_up end (inl (unread, none)) (reply, told, (from, placed, calls)) = absurd (let e : 0 ≡ 2 = sym (ap length none) ∙ ap length calls in omega (arith, e))
+  not_up end (inr (from, said, calls)) (reply, told, took) = one_two stream made from reply calls took
+
   went : (y : Next) → (x, left) ≡ y → left.gives ≡ y.1.gives
   went y is = ap (λ (z : Next). z.1.gives) is
 
@@ -169,22 +175,26 @@ module _ (name : StreamName) (stream : PlainStream) (made : List Made) (x : Next
   orders (no_place more reply none calls is) =
       none_so 12 (ap (λ (y : Next). tag y.0) is) refl (went _ is) (λ behind alive. stage_asked (asks_kind stream (asks_on stream more)) (λ up. one_two stream made reply up.0 calls up.2))
   orders (a_marker more from reply snapshot placed said calls is) =
-      let took : AskedTake stream made reply = (from, said_so from (answer.Placed place.Memory) placed, calls) in
+      let took : AskedTake stream made reply = (from, take_said from placed, calls) in
       none_so 1 (ap (λ (y : Next). tag y.0) is) refl (went _ is)
       (λ behind alive. stage_asked (asks_kind stream (asks_on stream more))
       (λ up. let e : 1 ≡ 2 = ap answer_tag (same_reply reply (answer.Taken snapshot) answer.Nothing (said_so reply (answer.Taken snapshot) said) (subst (λ o. IsSaid o answer.Nothing) (take_reply stream made reply up.0 took up.2) up.1)) in absurd (omega (arith, e))))
   orders (nothing more none from reply placed said calls is) =
       none_so 3 (ap (λ (y : Next). tag y.0) is) refl (went _ is) (λ behind alive stage. gives_none none stage)
   orders (no_take more from reply placed not_taken none calls is) =
-      let took : AskedTake stream made reply = (from, said_so from (answer.Placed place.Memory) placed, calls) in
+      let took : AskedTake stream made reply = (from, take_said from placed, calls) in
       none_so 12 (ap (λ (y : Next). tag y.0) is) refl (went _ is)
       (λ behind alive. stage_asked (asks_kind stream (asks_on stream more))
       (λ up. none (says_so reply answer.Nothing (subst (λ o. IsSaid o answer.Nothing) (take_reply stream made reply up.0 took up.2) up.1))))
+  orders (from_disk more end reading snapshot promised found is) =
+      none_so 1 (ap (λ (y : Next). tag y.0) is) refl (went _ is) (λ behind alive. stage_asked (asks_kind stream (asks_on stream more)) (not_up end (promised_so stream made end promised)))
+  orders (no_disk more end reading promised found is) =
+      none_so 6 (ap (λ (y : Next). tag y.0) is) refl (went _ is) (λ behind alive. stage_asked (asks_kind stream (asks_on stream more)) (not_up end (promised_so stream made end promised)))
   orders (awaits put alive g gives waiting none is) =
       none_so 4 (ap (λ (y : Next). tag y.0) is) refl (went _ is) (λ behind on stage. stage_kind 3 (waits_kind stream (awaits_at stream g gives g.step refl waiting)) refl refl stage)
   orders (all_up more g gives told tells from reply placed said calls is) =
       up_by (none_behind stream.items stream.next more.put) more.alive g gives g.step refl (sending more.below)
-      (reply, said_so reply answer.Nothing said, (from, said_so from (answer.Placed place.Memory) placed, calls)) told tells (ap (λ (y : Next). y.0) is) (went _ is)
+      (reply, said_so reply answer.Nothing said, (from, take_said from placed, calls)) told tells (ap (λ (y : Next). y.0) is) (went _ is)
     where
       sending : ((stream.gives ≡ None) × (reaches_end stream.until stream.marked ≡ false)) ⊎ ((h : GiveUp) × (stream.gives ≡ Some h) × IsSending h.step) → IsSending g.step
       sending (inl (none, below)) = absurd (let e : None ≡ Some g = sym none ∙ gives in cc e)
@@ -192,7 +202,7 @@ module _ (name : StreamName) (stream : PlainStream) (made : List Made) (x : Next
   orders (a_state put alive g gives told tells none is) =
       alone_by (none_behind stream.items stream.next put) alive g gives g.step refl none told tells (ap (λ (y : Next). y.0) is) (went _ is)
 
-pub in_order : (name : StreamName) (stream left : PlainStream) (made : List Made) (x : NextFrame) → Told (next_frame name stream) made (x, left) → InOrder name stream made x left
+pub in_order : (name : StreamName) (stream left : PlainStream) (made : List Made) (x : NextFrame) → ToldJob (next_frame name stream) made (x, left) → InOrder name stream made x left
 in_order name stream left made x told =
     let one = orders name stream made x left (frame_told name stream made (x, left) told) in
     let ends = ends_so name stream left made x told in

@@ -14,15 +14,18 @@ use Rattle.mcbp_dcp.specs.declared.message.DcpMsg.TheVariants as msg
 use Rattle.mcbp_dcp.specs.DcpFrames.{dcp_frame}
 use Rattle.vb_calls.specs.declared.calls.VbCall.{VbCall}
 use Rattle.vb_calls.specs.declared.calls.VbReply.{VbReply}
-use Rattle.vb_calls.specs.Programs.{Done, Turn, More, Stop, Ran, Began}
-use Rattle.vb_calls.proofs.Runs.{ran_bind, began_bind, ran_began}
+use Rattle.vb_calls.specs.Jobs.{Ended, RanJob, BeganJob}
+use Rattle.vb_calls.specs.Programs.{Turn, More, Stop}
+use Rattle.vb_calls.specs.Shelves.{Ask, Got}
+use Rattle.vb_calls.proofs.JobRuns.{ran_bind_job, began_bind_job, ran_began_job}
+use Rattle.dcp_producer.specs.declared.halt.Halt.TheVariants as halt
 use Rattle.dcp_producer.specs.declared.next_frame.NextFrame.{NextFrame}
 use Rattle.dcp_producer.specs.declared.next_frame.NextFrame.TheVariants as next
 use Rattle.dcp_producer.specs.declared.next_frame.Waits.{Waits}
 use Rattle.dcp_producer.specs.Producers.{PlainStream, Served, Rising, ring_of, stream_of_id, without_stream}
 use Rattle.dcp_producer.specs.Frames.{next_frame}
 use Rattle.dcp_producer.specs.Wanting.{standing}
-use Rattle.dcp_producer.specs.Pulling.{Pulling, QuietOnes, pull_of, with_quiet, frame_put, came_as, came, is_quiet, one_turn, stream_asked, stream_in, turn_had}
+use Rattle.dcp_producer.specs.Pulling.{Halting, Pulling, QuietOnes, pull_of, with_quiet, frame_put, came_as, came, is_quiet, one_turn, stream_asked, stream_in, turn_had}
 use Rattle.dcp_producer.proofs.Kept.{replaced_set, stands}
 
 pub on_err : {T E : Type 0} (r : Result T E) (P : Type 0) → P → OnErr r P
@@ -66,7 +69,7 @@ module _ {X : Type 0} (p : X → Bool) (xs : List X) where
   place_some at false e is = absurd (cc is)
 
 -- a stream has its turn
-module _ {W : Type 0} (step : W → ℕ → VbCall → Option VbReply → W → Type 0) (s0 s : Served) (is : s0 ≡ s) (q : QuietOnes) (ring ring' : PlainRing)
+module _ {W J : Type 0} (step : W → ℕ → VbCall → Option VbReply → W → Type 0) (asks : J → ℕ → (ask : Ask) → Got ask → J → Type 0) (s0 s : Served) (is : s0 ≡ s) (q : QuietOnes) (ring ring' : PlainRing)
     (ids : ring.ids ≡ map (λ stream. stream.id) s0.end.streams) (turn : ring.turn ≡ s0.end.turn) (id : ℕ) (who : next_id ring ≡ Some id) (went : ring' ≡ turned ring) where
   abbrev behind : Served
   behind = record s0 { end = record s0.end { turn = ring'.turn } }
@@ -82,39 +85,39 @@ module _ {W : Type 0} (step : W → ℕ → VbCall → Option VbReply → W → 
       ∙ ap (λ r. turn_had (record s0 { end = record s0.end { turn = r.turn } }) q (stream_in (next_id ring) s0.end.streams)) (sym went)
       ∙ ap (λ o. turn_had behind q (stream_in o s0.end.streams)) who
 
-  had_quiet : (o : Option PlainStream) → stream_of_id id s0.end.streams ≡ o → is_quiet id q ≡ true → turn_had behind q o ≡ Done (More (pull_of behind q))
+  had_quiet : (o : Option PlainStream) → stream_of_id id s0.end.streams ≡ o → is_quiet id q ≡ true → turn_had behind q o ≡ Ended (More (pull_of behind q))
   had_quiet None e quiet = refl
   had_quiet (Some t) e quiet =
-      ap (λ b. if b then Done (More (pull_of behind q)) else stream_asked behind q t) (ap (λ n. is_quiet n q) (found_id id s0.end.streams t e) ∙ quiet)
+      ap (λ b. if b then Ended (More (pull_of behind q)) else stream_asked behind q t) (ap (λ n. is_quiet n q) (found_id id s0.end.streams t e) ∙ quiet)
 
-  pub turn_quiet : (old : W) → is_quiet id q ≡ true → Ran step (one_turn (pull_of s q)) old (More (pull_of behind q)) old
-  turn_quiet old quiet =
-      subst (λ p. Ran step p old (More (pull_of behind q)) old) (sym (turn_is ∙ had_quiet (stream_of_id id s0.end.streams) refl quiet)) (refl, refl)
+  pub turn_quiet : (old : W) (kept : J) → is_quiet id q ≡ true → RanJob step asks (one_turn (pull_of s q)) old kept (More (pull_of behind q)) old kept
+  turn_quiet old kept quiet =
+      subst (λ p. RanJob step asks p old kept (More (pull_of behind q)) old kept) (sym (turn_is ∙ had_quiet (stream_of_id id s0.end.streams) refl quiet)) (refl, refl, refl)
 
-  pub turn_none : (old : W) → position (λ stream. stream.id == id) s0.end.streams ≡ None → Ran step (one_turn (pull_of s q)) old (More (pull_of behind q)) old
-  turn_none old none =
-      subst (λ p. Ran step p old (More (pull_of behind q)) old)
+  pub turn_none : (old : W) (kept : J) → position (λ stream. stream.id == id) s0.end.streams ≡ None → RanJob step asks (one_turn (pull_of s q)) old kept (More (pull_of behind q)) old kept
+  turn_none old kept none =
+      subst (λ p. RanJob step asks p old kept (More (pull_of behind q)) old kept)
       (sym (turn_is ∙ ap (turn_had behind q) (place_none (λ stream. stream.id == id) s0.end.streams (nat_lt (position_or_len (λ stream. stream.id == id) s0.end.streams) (length s0.end.streams)) refl none)))
-      (refl, refl)
+      (refl, refl, refl)
 
   pub turn_asked : (at : ℕ) → position (λ stream. stream.id == id) s0.end.streams ≡ Some at → is_quiet id q ≡ false
       → (t : PlainStream) × (slice_get s0.end.streams at ≡ Some t) × (one_turn (pull_of s q) ≡ stream_asked behind q t)
   turn_asked at stood loud =
       let (t, got, found) = place_some (λ stream. stream.id == id) s0.end.streams at (nat_lt (position_or_len (λ stream. stream.id == id) s0.end.streams) (length s0.end.streams)) refl stood in
-      let so : (if is_quiet t.id q then Done (More (pull_of behind q)) else stream_asked behind q t) ≡ stream_asked behind q t =
-      ap (λ b. if b then Done (More (pull_of behind q)) else stream_asked behind q t) (ap (λ n. is_quiet n q) (found_id id s0.end.streams t found) ∙ loud) in
+      let so : (if is_quiet t.id q then Ended (More (pull_of behind q)) else stream_asked behind q t) ≡ stream_asked behind q t =
+      ap (λ b. if b then Ended (More (pull_of behind q)) else stream_asked behind q t) (ap (λ n. is_quiet n q) (found_id id s0.end.streams t found) ∙ loud) in
       (t, got, turn_is ∙ ap (turn_had behind q) found ∙ so)
 
 -- what a stream has is put
 module _ (s : Served) (q : QuietOnes) (stream : PlainStream) (names : ℕ × ℕ × ℕ) (is : names ≡ (stream.id, stream.opaque, stream.vb)) (what : NextFrame) where
-  pub came_put : (m : DcpMsg) (line : Event) (new : Served) → what ≡ next.Put m line → new ≡ frame_put (dcp_frame m names.1 names.2) line s → Stop (pull_of new q) ≡ came_as s q stream what
+  pub came_put : (m : DcpMsg) (line : Event) (new : Served) → what ≡ next.Put m line → new ≡ frame_put (dcp_frame m names.1 names.2) line s → Stop (pull_of new q, None) ≡ came_as s q stream what
   came_put m line new put now =
-      ap (λ t. Stop (pull_of t q)) (now ∙ ap (λ n. frame_put (dcp_frame m n.1 n.2) line s) is) ∙ sym (ap (came_as s q stream) put)
+      ap (λ t. Stop (pull_of t q, None)) (now ∙ ap (λ n. frame_put (dcp_frame m n.1 n.2) line s) is) ∙ sym (ap (came_as s q stream) put)
 
   pub came_end : (reason : ℕ) (name : StreamName) (mid new : Served) → what ≡ next.End reason → name ≡ s.end.desk.stream → mid ≡ record s { end = without_stream names.0 s.end }
-      → new ≡ frame_put (dcp_frame (msg.StreamEnd reason) names.1 names.2) (event.Finished name reason) mid → Stop (pull_of new q) ≡ came_as s q stream what
+      → new ≡ frame_put (dcp_frame (msg.StreamEnd reason) names.1 names.2) (event.Finished name reason) mid → Stop (pull_of new q, None) ≡ came_as s q stream what
   came_end reason name mid new over named dropped now =
-      ap (λ t. Stop (pull_of t q)) (now ∙ ap (λ n. frame_put (dcp_frame (msg.StreamEnd reason) names.1 names.2) (event.Finished n reason) mid) named
+      ap (λ t. Stop (pull_of t q, None)) (now ∙ ap (λ n. frame_put (dcp_frame (msg.StreamEnd reason) names.1 names.2) (event.Finished n reason) mid) named
       ∙ ap (λ t. frame_put (dcp_frame (msg.StreamEnd reason) names.1 names.2) (event.Finished s.end.desk.stream reason) t) dropped
       ∙ ap (λ n. frame_put (dcp_frame (msg.StreamEnd reason) n.1 n.2) (event.Finished s.end.desk.stream reason) (record s { end = without_stream n.0 s.end })) is)
       ∙ sym (ap (came_as s q stream) over)
@@ -123,31 +126,35 @@ module _ (s : Served) (q : QuietOnes) (stream : PlainStream) (names : ℕ × ℕ
   came_quiet for new idle now =
       ap (λ t. More (pull_of s t)) (now ∙ ap (λ n. with_quiet n.0 for q) is) ∙ sym (ap (came_as s q stream) idle)
 
+  pub came_disk : what ≡ next.Disk → Stop (pull_of s q, Some halt.Disk) ≡ came_as s q stream what
+  came_disk shut = sym (ap (came_as s q stream) shut)
+
 -- a stream is asked
-module _ {W : Type 0} (step : W → ℕ → VbCall → Option VbReply → W → Type 0) (s0 s : Served) (is : s0 ≡ s) (q : QuietOnes) (at : ℕ) (x stream : PlainStream)
+module _ {W J : Type 0} (step : W → ℕ → VbCall → Option VbReply → W → Type 0) (asks : J → ℕ → (ask : Ask) → Got ask → J → Type 0) (s0 s : Served) (is : s0 ≡ s) (q : QuietOnes) (at : ℕ) (x stream : PlainStream)
     (there : x ≡ get_or s0.end.streams at x) (got : slice_get s.end.streams at ≡ Some stream) where
   it_is : x ≡ stream
   it_is = stands s0.end.streams at x stream there (ap (λ t. slice_get t.end.streams at) is ∙ got)
 
-  pub asked_began : (old new : W) → Began step (next_frame s0.end.desk.stream x) old new → Began step (stream_asked s q stream) old new
-  asked_began old new began =
-      subst (λ t. Began step (stream_asked t q stream) old new) is
-      (began_bind step (next_frame s0.end.desk.stream stream) (λ n. Done (came s0 q n)) old new (subst (λ t. Began step (next_frame s0.end.desk.stream t) old new) it_is began))
+  pub asked_began : (old : W) (kept : J) (new : W) (left : J) → BeganJob step asks (next_frame s0.end.desk.stream x) old kept new left → BeganJob step asks (stream_asked s q stream) old kept new left
+  asked_began old kept new left began =
+      subst (λ t. BeganJob step asks (stream_asked t q stream) old kept new left) is
+      (began_bind_job step asks (next_frame s0.end.desk.stream stream) (λ n. Ended (came s0 q n)) old kept new left (subst (λ t. BeganJob step asks (next_frame s0.end.desk.stream t) old kept new left) it_is began))
 
-  pub asked_behind : (what : NextFrame) (stream' : PlainStream) (old new : W) → Ran step (next_frame s0.end.desk.stream x) old (what, stream') new → Began step (stream_asked s q stream) old new
-  asked_behind what stream' old new ran =
-      subst (λ t. Began step (stream_asked t q stream) old new) is
-      (ran_began step (next_frame s0.end.desk.stream stream) (λ n. Done (came s0 q n)) old (what, stream') new new (subst (λ t. Ran step (next_frame s0.end.desk.stream t) old (what, stream') new) it_is ran) refl)
+  pub asked_behind : (what : NextFrame) (stream' : PlainStream) (old : W) (kept : J) (new : W) (left : J) → RanJob step asks (next_frame s0.end.desk.stream x) old kept (what, stream') new left → BeganJob step asks (stream_asked s q stream) old kept new left
+  asked_behind what stream' old kept new left ran =
+      subst (λ t. BeganJob step asks (stream_asked t q stream) old kept new left) is
+      (ran_began_job step asks (next_frame s0.end.desk.stream stream) (λ n. Ended (came s0 q n)) old kept (what, stream') new left new left
+      (subst (λ t. RanJob step asks (next_frame s0.end.desk.stream t) old kept (what, stream') new left) it_is ran) (refl, refl))
 
-  pub asked_ran : (what : NextFrame) (stream' : PlainStream) (old new : W) (turn : Turn Pulling Pulling) → Rising s0.end.streams → standing stream' ≡ standing x
-      → Ran step (next_frame s0.end.desk.stream x) old (what, stream') new
+  pub asked_ran : (what : NextFrame) (stream' : PlainStream) (old : W) (kept : J) (new : W) (left : J) (turn : Turn Pulling Halting) → Rising s0.end.streams → standing stream' ≡ standing x
+      → RanJob step asks (next_frame s0.end.desk.stream x) old kept (what, stream') new left
       → turn ≡ came_as (record s0 { end = record s0.end { streams = slice_set s0.end.streams at stream' } }) q stream' what
-      → Ran step (stream_asked s q stream) old turn new
-  asked_ran what stream' old new turn rise same ran came_so =
+      → RanJob step asks (stream_asked s q stream) old kept turn new left
+  asked_ran what stream' old kept new left turn rise same ran came_so =
       let here : slice_get s0.end.streams at ≡ Some stream = ap (λ t. slice_get t.end.streams at) is ∙ got in
       let id : stream'.id ≡ stream.id = ap (λ n. n.0) (same ∙ ap standing it_is) in
       let to : turn ≡ came s0 q (what, stream') =
       came_so ∙ ap (λ l. came_as (record s0 { end = record s0.end { streams = l } }) q stream' what) (sym (replaced_set s0.end.streams at stream stream' rise here id)) in
-      subst (λ t. Ran step (stream_asked t q stream) old turn new) is
-      (ran_bind step (next_frame s0.end.desk.stream stream) (λ n. Done (came s0 q n)) old (what, stream') new turn new
-      (subst (λ t. Ran step (next_frame s0.end.desk.stream t) old (what, stream') new) it_is ran) (to, refl))
+      subst (λ t. RanJob step asks (stream_asked t q stream) old kept turn new left) is
+      (ran_bind_job step asks (next_frame s0.end.desk.stream stream) (λ n. Ended (came s0 q n)) old kept (what, stream') new left turn new left
+      (subst (λ t. RanJob step asks (next_frame s0.end.desk.stream t) old kept (what, stream') new left) it_is ran) (to, refl, refl))

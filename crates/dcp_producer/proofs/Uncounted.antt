@@ -7,7 +7,9 @@ use Rattle.vb_types.specs.declared.stream.AskAnswer.{AskAnswer}
 use Rattle.vb_types.specs.declared.stream.StreamAsk.{StreamAsk}
 use Rattle.vb_calls.specs.declared.calls.VbCall.{VbCall}
 use Rattle.vb_calls.specs.declared.calls.VbReply.{VbReply}
+use Rattle.vb_calls.specs.Jobs.{RanJob}
 use Rattle.vb_calls.specs.Programs.{Prog, Done, Call, AnyCall, AnyReply, Always, Ran}
+use Rattle.vb_calls.specs.Shelves.{Ask, Got}
 use Rattle.dcp_producer.specs.Producers.{PlainProducer, Served, begun}
 use Rattle.dcp_producer.specs.Serving.{ask_verdict, frame_answered, high_of_reply, log_of_reply, status_sent, stream_answered, verdict_with}
 use Rattle.dcp_producer.specs.declared.halt.Halt.{Halt}
@@ -71,11 +73,11 @@ module _ {W : Type 0} (step : W → ℕ → VbCall → Option VbReply → W → 
       ap (λ e. e.desk) is ∙ (ran_always step AnyCall (Same s) (frame_answered f s) old s' new ran (frame_same f s)).1
 
 -- a pull that begins with nothing told ends with nothing that became of durable writes
-pub pulled_so : {W : Type 0} (step : W → ℕ → VbCall → Option VbReply → W → Type 0) (k : ℕ) (s s' told : Served) (h : Halt) (plain : PlainProducer) (old new : W)
-    → s ≡ begun s.end → s.end ≡ plain → told.end ≡ s'.end → told.events ≡ s'.events → told.out ≡ s'.out → told.count ≡ s'.count → s'.resolved ≡ s.resolved → Ran step (frames_put k s) old (s', h) new
-    → Ran step (frames_put k (begun plain)) old (record { end = told.end; events = told.events; out = told.out; count = told.count; resolved = [] }, h) new
-pulled_so step k s s' told h plain old new begins is end events out count same ran =
+pub pulled_so : {W J : Type 0} (step : W → ℕ → VbCall → Option VbReply → W → Type 0) (asks : J → ℕ → (ask : Ask) → Got ask → J → Type 0) (k : ℕ) (s s' told : Served) (h : Halt) (plain : PlainProducer) (old : W) (kept : J) (new : W) (left : J)
+    → s ≡ begun s.end → s.end ≡ plain → told.end ≡ s'.end → told.events ≡ s'.events → told.out ≡ s'.out → told.count ≡ s'.count → s'.resolved ≡ s.resolved → RanJob step asks (frames_put k s) old kept (s', h) new left
+    → RanJob step asks (frames_put k (begun plain)) old kept (record { end = told.end; events = told.events; out = told.out; count = told.count; resolved = [] }, h) new left
+pulled_so step asks k s s' told h plain old kept new left begins is end events out count same ran =
     let none : [] ≡ s'.resolved = sym (same ∙ ap (λ t. t.resolved) begins) in
     let whole : record { end = told.end; events = told.events; out = told.out; count = told.count; resolved = [] } ≡ s' = λ i. record { end = end i; events = events i; out = out i; count = count i; resolved = none i } in
-    subst (λ t. Ran step (frames_put k t) old (record { end = told.end; events = told.events; out = told.out; count = told.count; resolved = [] }, h) new) (begins ∙ ap begun is)
-    (subst (λ t. Ran step (frames_put k s) old (t, h) new) (sym whole) ran)
+    subst (λ t. RanJob step asks (frames_put k t) old kept (record { end = told.end; events = told.events; out = told.out; count = told.count; resolved = [] }, h) new left) (begins ∙ ap begun is)
+    (subst (λ t. RanJob step asks (frames_put k s) old kept (t, h) new left) (sym whole) ran)

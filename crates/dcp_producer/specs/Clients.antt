@@ -20,7 +20,7 @@ use Rattle.vb_calls.specs.declared.calls.VbAnswer.TheVariants as answer
 use Rattle.vb_calls.specs.declared.calls.VbCall.{VbCall}
 use Rattle.vb_calls.specs.declared.calls.VbCall.TheVariants as call
 use Rattle.vb_calls.specs.declared.calls.VbReply.{VbReply}
-use Rattle.vb_calls.specs.Programs.{Prog}
+use Rattle.vb_calls.specs.Jobs.{Job, lift}
 use Rattle.dcp_producer.specs.Handshaking.{Asks}
 use Rattle.dcp_producer.specs.Having.{IsOpened}
 use Rattle.dcp_producer.specs.Producers.{Served, begun}
@@ -104,8 +104,8 @@ named_so n = begun (record (with_streams (some_stream 1 5 false ∷ []) 0) { des
 abbrev pub seqno_frame : Frame
 seqno_frame = record { magic = REQUEST; opcode = 0x61; datatype = 0; vb_or_status = 3; opaque = 0x01020304; cas = 0; framing = []; extras = 0 ∷ 0 ∷ 0 ∷ 0 ∷ 0 ∷ 0 ∷ 0 ∷ 5 ∷ []; key = []; value = [] }
 
-abbrev pub acknowledged_by : StreamName → Prog Served
-acknowledged_by n = message_answered seqno_frame (msg.SeqnoAcknowledged 5) (named_so n)
+abbrev pub acknowledged_by : StreamName → Job Served
+acknowledged_by n = lift (message_answered seqno_frame (msg.SeqnoAcknowledged 5) (named_so n))
 
 -- the answer NotSupported to it
 abbrev pub not_supported : List ℕ

@@ -4,6 +4,7 @@ use Rattle.std.specs.List.{All, list_any}
 use Rattle.vb_calls.specs.Programs.{Prog, Done, Call}
 use Rattle.vb_calls.specs.declared.calls.VbCall.{VbCall}
 use Rattle.vb_calls.specs.declared.calls.VbCall.TheVariants as call
+use Rattle.vb_calls.specs.Shelves.{Ask}
 use Rattle.dcp_producer.specs.declared.halt.Halt.{Halt}
 use Rattle.dcp_producer.specs.Producers.{PlainStream, PlainProducer, Served}
 
@@ -35,3 +36,7 @@ LeavesEnding (s, halted) = AreEnding s.end.streams
 -- no call is such a call
 abbrev pub NoCall : ℕ → VbCall → Type 0
 NoCall v call = ⊥
+
+-- and no request to a journal is such a request
+abbrev pub NoRequest : ℕ → Ask → Type 0
+NoRequest v ask = ⊥

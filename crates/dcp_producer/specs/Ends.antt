@@ -44,10 +44,18 @@ pub record AsksOn (stream : PlainStream) : Type 0 where
 abbrev pub AskedPlace : PlainStream → List Made → Option VbReply → Type 0
 AskedPlace stream made reply = made ≡ (stream.vb, call.Place stream.id, reply) ∷ []
 
--- they come from memory, and it was asked for the next snapshot, with this reply
+-- they come from memory, or from the journal, which then gave nothing
+abbrev pub SaysTake : Option VbReply → Type 0
+SaysTake from = IsSaid from (answer.Placed place.Memory) ⊎ ((end : ℕ) × IsSaid from (answer.Placed (place.Backfill end)))
+
+-- they do, and it was asked for the next snapshot, with this reply
 abbrev pub AskedTake : PlainStream → List Made → Option VbReply → Type 0
 AskedTake stream made reply =
-    (from : Option VbReply) × IsSaid from (answer.Placed place.Memory) × (made ≡ (stream.vb, call.Place stream.id, from) ∷ (stream.vb, call.Take stream.id, reply) ∷ [])
+    (from : Option VbReply) × SaysTake from × (made ≡ (stream.vb, call.Place stream.id, from) ∷ (stream.vb, call.Take stream.id, reply) ∷ [])
+
+-- a backfill up to `end` is to be read: one that was not read yet, and its vBucket was asked for nothing; or one that its vBucket answered now
+abbrev pub IsPromised : PlainStream → List Made → ℕ → Type 0
+IsPromised stream made end = ((stream.unread ≡ Some end) × (made ≡ [])) ⊎ ((from : Option VbReply) × IsSaid from (answer.Placed (place.Backfill end)) × AskedPlace stream made from)
 
 -- its vBucket lost it: it is absent, or does not say where the stream's changes come from; or it neither gives a snapshot nor says that there is none yet
 abbrev pub IsLost : PlainStream → List Made → Type 0

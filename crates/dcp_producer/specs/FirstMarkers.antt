@@ -56,4 +56,4 @@ pub record MarksFirst (name : StreamName) (stream : PlainStream) (snapshot : Sna
   pub flags : ℕ
   pub items : List Change
   pub are : AreItems stream snapshot items
-  pub is : comes ≡ (next.Put (msg.SnapshotMarker start snapshot.end flags) (event.Marked name start snapshot.end flags), record stream { items = items; next = 0; marked = Some snapshot.end })
+  pub is : comes ≡ (next.Put (msg.SnapshotMarker start snapshot.end flags) (event.Marked name start snapshot.end flags), record stream { items = items; next = 0; marked = Some snapshot.end; place = snapshot.end })

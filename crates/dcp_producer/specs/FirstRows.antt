@@ -19,7 +19,7 @@ asked_at start = record { flags = 0; start = start; end = 99; uuid = 11; ss = 2;
 
 -- its stream, behind markers up to this one, if any
 abbrev pub asked_stream : ℕ → Option ℕ → PlainStream
-asked_stream start marked = record { id = 7; vb = 3; opaque = 9; until = 99; first = first_of (asked_at start); items = []; next = 0; marked = marked; reached = start; ended = false; gives = None }
+asked_stream start marked = record { id = 7; vb = 3; opaque = 9; until = 99; first = first_of (asked_at start); sync = true; place = start; unread = None; items = []; next = 0; marked = marked; reached = start; ended = false; gives = None }
 
 -- its vBucket gives the commit 9 of the key `a`, of a document or of a removal, from the place 5, and then nothing
 abbrev pub gives_commit : Bool → List (Option VbReply)

@@ -1,4 +1,4 @@
--- the next frame of a stream, as a program over its node's vBuckets
+-- the next frame of a stream, as a job over its node's vBuckets and their journals
 use Rattle.std.specs.Prelude.{ℕ, ◌+◌, max, Bool, false, true, if◌then◌else◌, nat_le, [], slice_get, Option, Some, None}
 use Rattle.mcbp_dcp.specs.declared.message.DcpMsg.{DcpMsg}
 use Rattle.mcbp_dcp.specs.declared.message.DcpMsg.TheVariants as msg
@@ -28,7 +28,10 @@ use Rattle.vb_calls.specs.declared.calls.VbCall.TheVariants as call
 use Rattle.vb_calls.specs.declared.calls.VbAnswer.{VbAnswer}
 use Rattle.vb_calls.specs.declared.calls.VbAnswer.TheVariants as answer
 use Rattle.vb_calls.specs.declared.calls.VbReply.{VbReply}
-use Rattle.vb_calls.specs.Programs.{Prog, Done, Call}
+use Rattle.vb_calls.specs.Jobs.{Job, Ended, Call, bind_job}
+use Rattle.backfill.specs.declared.backfilled.Backfilled.{Backfilled}
+use Rattle.backfill.specs.declared.backfilled.Backfilled.TheVariants as filled
+use Rattle.backfill.specs.Backfills.{backfill_job}
 use Rattle.dcp_producer.specs.declared.next_frame.NextFrame.{NextFrame}
 use Rattle.dcp_producer.specs.declared.next_frame.NextFrame.TheVariants as next
 use Rattle.dcp_producer.specs.declared.next_frame.Waits.{Waits}
@@ -94,7 +97,7 @@ past_item seq stream = record stream { next = stream.next + 1; reached = max str
 
 -- the stream at the front of a snapshot, behind its marker
 abbrev pub with_snapshot : PlainStream → Snapshot → PlainStream
-with_snapshot stream snapshot = record stream { items = snapshot.items; next = 0; marked = Some snapshot.end }
+with_snapshot stream snapshot = record stream { items = snapshot.items; next = 0; marked = Some snapshot.end; place = snapshot.end }
 
 -- the line of an item
 abbrev pub item_line : StreamName → Change → Event
@@ -173,8 +176,37 @@ take_answered name stream None = over STATE_CHANGED stream
 take_answered name stream (Some reply) = taken_next name stream reply.answer
 
 -- the vBucket is asked for the next snapshot
-abbrev pub take_requested : StreamName → PlainStream → Prog Next
-take_requested name stream = Call stream.vb (call.Take stream.id) (λ reply. Done (take_answered name stream reply))
+abbrev pub take_requested : StreamName → PlainStream → Job Next
+take_requested name stream = Call stream.vb (call.Take stream.id) (λ reply. Ended (take_answered name stream reply))
+
+-- a backfill up to `end` was answered, and is to be read; and it was read
+abbrev pub with_unread : ℕ → PlainStream → PlainStream
+with_unread end stream = record stream { unread = Some end }
+
+abbrev pub read_up : PlainStream → PlainStream
+read_up stream = record stream { unread = None }
+
+-- what a turn comes to, where it comes to something
+abbrev pub some_next : Next → Option NextFrame × PlainStream
+some_next (next, stream) = (Some next, stream)
+
+-- what is read of a backfill: the marker of its snapshot; nothing, where the stream sees nothing there; or that the journal can't be read, which leaves the stream as it was
+abbrev pub read_comes : StreamName → PlainStream → Backfilled → Option NextFrame × PlainStream
+read_comes name stream (filled.Snapshot snapshot) = some_next (marker_next name (read_up stream) (as_sent (read_up stream) snapshot))
+read_comes name stream filled.Nothing = (None, read_up stream)
+read_comes name stream filled.Disk = (Some next.Disk, stream)
+
+-- the journal is read for it, once, from the place of the stream's consumer
+abbrev pub read_job : StreamName → ℕ → PlainStream → Job (Option NextFrame × PlainStream)
+read_job name end stream = bind_job (backfill_job stream.vb stream.place end stream.sync) (λ came. Ended (read_comes name stream came))
+
+-- and where it gives nothing, the stream goes on so
+abbrev pub go_on_by : (PlainStream → Job Next) → Option NextFrame × PlainStream → Job Next
+go_on_by on (Some next, left) = Ended (next, left)
+go_on_by on (None, left) = on left
+
+abbrev pub backfill_next : StreamName → (PlainStream → Job Next) → ℕ → PlainStream → Job Next
+backfill_next name on end stream = bind_job (read_job name end stream) (go_on_by on)
 
 -- where the stream's next changes come from, by an answer; a vBucket that knows nothing of the stream does not say
 abbrev pub place_told : VbAnswer → Option Place
@@ -186,15 +218,21 @@ abbrev pub place_said : Option VbReply → Option Place
 place_said None = None
 place_said (Some reply) = place_told reply.answer
 
--- by that place: the next snapshot is taken, or the changes are to be saved first; a stream that its vBucket lost is over
-abbrev pub placed_next : StreamName → PlainStream → Option Place → Prog Next
+-- by that place: the next snapshot is taken; or the journal is read, and where it gives nothing, memory goes on from there; or the changes are to be saved first; a stream that its vBucket lost is over
+abbrev pub placed_next : StreamName → PlainStream → Option Place → Job Next
 placed_next name stream (Some place.Memory) = take_requested name stream
-placed_next name stream (Some place.WaitSaved) = Done (quiet waits.Saved stream)
-placed_next name stream None = Done (over STATE_CHANGED stream)
+placed_next name stream (Some (place.Backfill end)) = backfill_next name (take_requested name) end (with_unread end stream)
+placed_next name stream (Some place.WaitSaved) = Ended (quiet waits.Saved stream)
+placed_next name stream None = Ended (over STATE_CHANGED stream)
 
 -- the vBucket is asked where the stream's next changes come from
-abbrev pub place_requested : StreamName → PlainStream → Prog Next
+abbrev pub place_requested : StreamName → PlainStream → Job Next
 place_requested name stream = Call stream.vb (call.Place stream.id) (λ reply. placed_next name stream (place_said reply))
+
+-- the next changes: of a backfill that is not read, which comes first, and else of where the vBucket says
+abbrev pub changes_next : StreamName → PlainStream → Option ℕ → Job Next
+changes_next name stream None = place_requested name stream
+changes_next name stream (Some end) = backfill_next name (place_requested name) end stream
 
 -- the END of a marker that was sent reaches the end that was asked for
 abbrev pub reaches_end : ℕ → Option ℕ → Bool
@@ -202,36 +240,36 @@ reaches_end until None = false
 reaches_end until (Some end) = nat_le until end
 
 -- the stream is closed at its vBucket, and over: all that was asked for was sent
-abbrev pub close_sent : PlainStream → Prog Next
-close_sent stream = Call stream.vb (call.CloseStream stream.id) (λ reply. Done (over ALL_SENT stream))
+abbrev pub close_sent : PlainStream → Job Next
+close_sent stream = Call stream.vb (call.CloseStream stream.id) (λ reply. Ended (over ALL_SENT stream))
 
 -- what a stream that gives its vBucket up puts in a step: the snapshots that there are, a state, or its end; in the other steps it waits
-abbrev pub step_next : StreamName → PlainStream → GiveUp → GiveStep → Prog Next
-step_next name stream g step.SendAll = place_requested name stream
-step_next name stream g step.SendPending = Done (state_next name stream g (role_of step.SendPending))
-step_next name stream g step.AwaitPending = Done (state_next name stream g (role_of step.AwaitPending))
-step_next name stream g step.Yield = Done (state_next name stream g (role_of step.Yield))
-step_next name stream g step.SendRest = place_requested name stream
-step_next name stream g step.SendActive = Done (state_next name stream g (role_of step.SendActive))
-step_next name stream g step.AwaitActive = Done (state_next name stream g (role_of step.AwaitActive))
+abbrev pub step_next : StreamName → PlainStream → GiveUp → GiveStep → Job Next
+step_next name stream g step.SendAll = changes_next name stream stream.unread
+step_next name stream g step.SendPending = Ended (state_next name stream g (role_of step.SendPending))
+step_next name stream g step.AwaitPending = Ended (state_next name stream g (role_of step.AwaitPending))
+step_next name stream g step.Yield = Ended (state_next name stream g (role_of step.Yield))
+step_next name stream g step.SendRest = changes_next name stream stream.unread
+step_next name stream g step.SendActive = Ended (state_next name stream g (role_of step.SendActive))
+step_next name stream g step.AwaitActive = Ended (state_next name stream g (role_of step.AwaitActive))
 step_next name stream g step.End = close_sent stream
 
 -- what a stream puts that no change of role ended: its end where it reached the end that was asked for, and else the next snapshot's marker; of one that gives its vBucket up, what its step says, whatever end was asked for
-abbrev pub alive_next : StreamName → PlainStream → Option GiveUp → Prog Next
-alive_next name stream None = if reaches_end stream.until stream.marked then close_sent stream else place_requested name stream
+abbrev pub alive_next : StreamName → PlainStream → Option GiveUp → Job Next
+alive_next name stream None = if reaches_end stream.until stream.marked then close_sent stream else changes_next name stream stream.unread
 alive_next name stream (Some g) = step_next name stream g g.step
 
 -- behind the items: the end of a stream that a change of role ended, also of one that gives its vBucket up, and else what comes next
-abbrev pub more_next : StreamName → PlainStream → Prog Next
-more_next name stream = if stream.ended then Done (over STATE_CHANGED stream) else alive_next name stream stream.gives
+abbrev pub more_next : StreamName → PlainStream → Job Next
+more_next name stream = if stream.ended then Ended (over STATE_CHANGED stream) else alive_next name stream stream.gives
 
 -- the next item of the snapshot that was taken last, and what comes behind the last one
-abbrev pub next_by : StreamName → PlainStream → Option Change → Prog Next
-next_by name stream (Some c) = Done (item_next name stream c)
+abbrev pub next_by : StreamName → PlainStream → Option Change → Job Next
+next_by name stream (Some c) = Ended (item_next name stream c)
 next_by name stream None = more_next name stream
 
 -- the next frame of a stream
-unfoldable pub next_frame : StreamName → PlainStream → Prog Next
+unfoldable pub next_frame : StreamName → PlainStream → Job Next
 next_frame name stream = next_by name stream (slice_get stream.items stream.next)
 
 -- what is put can be written

@@ -1,5 +1,5 @@
 -- what is put of markers, items and ends, in words beside the definitions
-use Rattle.std.specs.Prelude.{ℕ, ◌≡◌, ◌⊎◌, Bool, true, false, List, [], ◌∷◌, ◌++◌, slice_get, Some}
+use Rattle.std.specs.Prelude.{ℕ, ◌≡◌, ◌⊎◌, Bool, true, false, List, [], ◌∷◌, ◌++◌, slice_get, Some, None}
 use Rattle.mcbp_frame.specs.Spelling.{spelling}
 use Rattle.mcbp_dcp.specs.declared.message.DcpMsg.{DcpMsg}
 use Rattle.mcbp_dcp.specs.declared.message.DcpMsg.TheVariants as msg
@@ -17,11 +17,15 @@ use Rattle.vb_events.specs.declared.event.ItemAct.{ItemAct}
 use Rattle.vb_events.specs.declared.event.ItemAct.TheVariants as item_act
 use Rattle.vb_calls.specs.declared.calls.VbAnswer.TheVariants as answer
 use Rattle.vb_calls.specs.declared.calls.VbReply.{VbReply}
-use Rattle.vb_calls.specs.Programs.{Done, Turn, Stop}
+use Rattle.vb_calls.specs.Jobs.{Ended}
+use Rattle.vb_calls.specs.Programs.{Turn, Stop}
+use Rattle.vb_calls.specs.Shelves.{Reading}
+use Rattle.backfill.specs.Backfills.{backfilled}
+use Rattle.backfill.specs.declared.backfilled.Backfilled.TheVariants as filled
 use Rattle.dcp_producer.specs.Producers.{PlainStream, Served}
 use Rattle.dcp_producer.specs.FirstMarkers.{IsStart}
-use Rattle.dcp_producer.specs.Frames.{Next, marker_next, over, take_answered}
-use Rattle.dcp_producer.specs.Pulling.{Pulling, QuietOnes, came, pull_of, stream_asked}
+use Rattle.dcp_producer.specs.Frames.{Next, marker_next, over, read_comes, some_next, take_answered}
+use Rattle.dcp_producer.specs.Pulling.{Halting, Pulling, QuietOnes, came, pull_of, stream_asked}
 
 -- a stream of a connection is asked for its next frame, with these streams quiet before
 pub record Asking : Type 0 where
@@ -30,7 +34,7 @@ pub record Asking : Type 0 where
   pub stream : PlainStream
 
 -- its turn
-abbrev pub turn_of_it : Asking → Next → Turn Pulling Pulling
+abbrev pub turn_of_it : Asking → Next → Turn Pulling Halting
 turn_of_it a next = came a.served a.quiet next
 
 -- a marker's flags: 1 for a snapshot from memory, 2 for one from disk
@@ -38,9 +42,9 @@ abbrev pub IsSource : Bool → ℕ → Type 0
 IsSource disk flags = ((disk ≡ false) × (flags ≡ 1)) ⊎ ((disk ≡ true) × (flags ≡ 2))
 
 -- what a snapshot that the vBucket gave comes to: its marker, in a frame and a line with the same numbers, START as the stream sends it, and the stream's turn is over
-pub record MarkerOf (a : Asking) (snapshot : Snapshot) (turn : Turn Pulling Pulling) : Type 0 where
+pub record MarkerOf (a : Asking) (snapshot : Snapshot) (turn : Turn Pulling Halting) : Type 0 where
   pub then : Served
-  pub goes_on : turn ≡ Stop (pull_of then a.quiet)
+  pub goes_on : turn ≡ Stop (pull_of then a.quiet, None)
   pub start : ℕ
   pub starts : IsStart a.stream snapshot start
   pub flags : ℕ
@@ -53,6 +57,11 @@ abbrev pub MarksSnapshots : Type 0
 MarksSnapshots = (a : Asking) (snapshot : Snapshot) (reply : VbReply) → reply.answer ≡ answer.Taken snapshot
     → MarkerOf a snapshot (turn_of_it a (take_answered a.served.end.desk.stream a.stream (Some reply)))
 
+-- and each that a journal gives, where it is read for a backfill
+abbrev pub MarksBackfills : Type 0
+MarksBackfills = (a : Asking) (end : ℕ) (reading : Reading) (snapshot : Snapshot) → backfilled a.stream.place end a.stream.sync reading ≡ filled.Snapshot snapshot
+    → (next : Next) × (read_comes a.served.end.desk.stream a.stream (backfilled a.stream.place end a.stream.sync reading) ≡ some_next next) × MarkerOf a snapshot (turn_of_it a next)
+
 -- this is the next item of the stream: that of the snapshot that was taken last, behind those that were put
 abbrev pub IsNext : PlainStream → Change → Type 0
 IsNext stream c = slice_get stream.items stream.next ≡ Some c
@@ -60,7 +69,7 @@ IsNext stream c = slice_get stream.items stream.next ≡ Some c
 -- the next item of the stream is put, with this message and a line of this act, and its turn is over
 pub record Puts (a : Asking) (c : Change) (sent : ItemAct) (m : DcpMsg) : Type 0 where
   pub then : Served
-  pub goes_on : stream_asked a.served a.quiet a.stream ≡ Done (Stop (pull_of then a.quiet))
+  pub goes_on : stream_asked a.served a.quiet a.stream ≡ Ended (Stop (pull_of then a.quiet, None))
   pub line : then.events ≡ a.served.events ++ event.Item a.served.end.desk.stream c.seq sent c.key ∷ []
   pub frame : then.out ≡ a.served.out ++ spelling (dcp_frame m a.stream.opaque a.stream.vb)
 
@@ -80,7 +89,7 @@ pub record PutsDurables (a : Asking) (c : Change) : Type 0 where
 abbrev pub PutsBytes : Change → List ℕ → Type 0
 PutsBytes c bytes =
     (a : Asking) → IsNext a.stream c → a.stream.opaque ≡ 0x0a0b0c0d → a.stream.vb ≡ 0x0102
-    → (then : Served) × (stream_asked a.served a.quiet a.stream ≡ Done (Stop (pull_of then a.quiet))) × (then.out ≡ a.served.out ++ bytes)
+    → (then : Served) × (stream_asked a.served a.quiet a.stream ≡ Ended (Stop (pull_of then a.quiet, None))) × (then.out ≡ a.served.out ++ bytes)
 
 -- what is put of a set and of a removal: the document, or the removal's own CAS and revision, with the change's seqno and key
 pub record PutsPlain (a : Asking) (c : Change) : Type 0 where
@@ -94,7 +103,7 @@ pub record PutsPlain (a : Asking) (c : Change) : Type 0 where
 abbrev pub ComesAs : (Asking → Next) → List ℕ → Type 0
 ComesAs next bytes =
     (a : Asking) → a.stream.opaque ≡ 0x0a0b0c0d → a.stream.vb ≡ 0x0102
-    → (then : Served) × (turn_of_it a (next a) ≡ Stop (pull_of then a.quiet)) × (then.out ≡ a.served.out ++ bytes)
+    → (then : Served) × (turn_of_it a (next a) ≡ Stop (pull_of then a.quiet, None)) × (then.out ≡ a.served.out ++ bytes)
 
 -- the marker of a snapshot, and its end for a reason
 abbrev pub MarksBytes : Snapshot → List ℕ → Type 0

@@ -1,6 +1,7 @@
 pub mod Producers
 pub mod Sizes
 pub mod Serving
+pub mod Dropping
 pub mod Firsts
 pub mod Frames
 pub mod Pulling
@@ -14,11 +15,11 @@ pub mod Holding
 pub mod Requesting
 pub mod Counting
 pub mod Closing
-pub mod Dropping
 pub mod Turns
 pub mod AskingAll
 pub mod Endings
 pub mod Ends
+pub mod Backfilling
 pub mod Taking
 pub mod Pulls
 pub mod Takeovers
@@ -29,6 +30,7 @@ pub mod Going
 pub mod Apart
 pub mod Orders
 pub mod Rows
+pub mod BackfillRows
 pub mod Clients
 pub mod Cuts
 pub mod Pairs

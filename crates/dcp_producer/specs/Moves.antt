@@ -16,7 +16,8 @@ use Rattle.vb_calls.specs.declared.calls.VbAnswer.TheVariants as answer
 use Rattle.vb_calls.specs.declared.calls.VbCall.{VbCall}
 use Rattle.vb_calls.specs.declared.calls.VbCall.TheVariants as call
 use Rattle.vb_calls.specs.declared.calls.VbReply.{VbReply}
-use Rattle.vb_calls.specs.Programs.{Prog, Done, Call}
+use Rattle.vb_calls.specs.Jobs.{Job, Ended, Call, Request, lift}
+use Rattle.vb_calls.specs.Shelves.{no_answer}
 use Rattle.dcp_producer.specs.declared.halt.Halt.{Halt}
 use Rattle.dcp_producer.specs.declared.halt.Halt.TheVariants as halt
 use Rattle.dcp_producer.specs.declared.yields.Yielded.{Yielded}
@@ -25,14 +26,16 @@ use Rattle.dcp_producer.specs.Producers.{PlainStream, Served}
 use Rattle.dcp_producer.specs.Rows.{end_line, item_of, pull, removal, with_streams}
 use Rattle.dcp_producer.specs.Serving.{heard}
 
--- what a program comes to by these replies, one after the other, and the calls that it makes
-abbrev pub by_these : {A : Type 0} → List (Option VbReply) → Prog A → A
-by_these replies (Done a) = a
+-- what a job comes to by these replies, one after the other, and where there is no journal; and the calls that it makes
+abbrev pub by_these : {A : Type 0} → List (Option VbReply) → Job A → A
+by_these replies (Ended a) = a
+by_these replies (Request v ask next) = by_these replies (next (no_answer ask))
 by_these [] (Call v call next) = by_these [] (next None)
 by_these (reply ∷ replies) (Call v call next) = by_these replies (next reply)
 
-abbrev pub calls_by : {A : Type 0} → List (Option VbReply) → Prog A → List (ℕ × VbCall)
-calls_by replies (Done a) = []
+abbrev pub calls_by : {A : Type 0} → List (Option VbReply) → Job A → List (ℕ × VbCall)
+calls_by replies (Ended a) = []
+calls_by replies (Request v ask next) = calls_by replies (next (no_answer ask))
 calls_by [] (Call v call next) = (v, call) ∷ calls_by [] (next None)
 calls_by (reply ∷ replies) (Call v call next) = (v, call) ∷ calls_by replies (next reply)
 
@@ -48,14 +51,14 @@ gives_then start end seqs =
 
 -- a stream of the vBucket 3, with the opaque 9 and the requested end 0, that gives it up and is in this step, with removals of these seqnos to put, which a change of role ended or did not end
 abbrev pub moving : GiveStep → List ℕ → Bool → PlainStream
-moving s seqs ended = record { id = 7; vb = 3; opaque = 9; until = 0; first = record { start = 0; as_sets = false }; items = map removal seqs; next = 0; marked = None; reached = 0; ended = ended; gives = Some (record { step = s }) }
+moving s seqs ended = record { id = 7; vb = 3; opaque = 9; until = 0; first = record { start = 0; as_sets = false }; sync = true; place = 0; unread = None; items = map removal seqs; next = 0; marked = None; reached = 0; ended = ended; gives = Some (record { step = s }) }
 
 -- a pull of nine frames of it, and that its vBucket is given up in front of one of so many
-abbrev pub pulled : PlainStream → Prog (Served × Halt)
+abbrev pub pulled : PlainStream → Job (Served × Halt)
 pulled stream = pull 9 (with_streams (stream ∷ []) 0)
 
-abbrev pub yielded : ℕ → PlainStream → Prog Yields
-yielded frames stream = given_up frames (with_streams (stream ∷ []) 0)
+abbrev pub yielded : ℕ → PlainStream → Job Yields
+yielded frames stream = lift (given_up frames (with_streams (stream ∷ []) 0))
 
 -- by these replies a pull told these lines, counted so many frames, said why it put no more, and made these calls; and its streams are in these steps then
 pub record Pulls (stream : PlainStream) (replies : List (Option VbReply)) (lines : List Event) (count : ℕ × Halt) (calls : List (ℕ × VbCall)) (steps : List (Option GiveUp)) : Type 0 where

@@ -45,7 +45,11 @@ AreBetween name first tries =
 abbrev pub AreOut : List Tried → Type 0
 AreOut tries = (front back : List Tried) (u : Tried) → tries ≡ front ++ u ∷ back → IsOut u.next → IsNotAsked u.stream.id back
 
--- how many calls a turn makes at most: two for a marker or a state, or where the stream is quiet, but for none where it waits for the answer to a state; one for an end of reason 0; none for any other frame, and for the end of a stream that a change of role ended; and two for that of a stream that its vBucket lost
+-- where a journal can't be read, that was the last turn
+abbrev pub Stops : List Tried → Type 0
+Stops tries = (front back : List Tried) (u : Tried) → tries ≡ front ++ u ∷ back → u.next ≡ next.Disk → back ≡ []
+
+-- how many calls a turn makes at most: two for a marker or a state, or where the stream is quiet, but for none where it waits for the answer to a state; one for an end of reason 0; none for any other frame, and for the end of a stream that a change of role ended; two for that of a stream that its vBucket lost; and one where its journal can't be read
 abbrev pub most_calls : Bool → NextFrame → ℕ
 most_calls ended (next.Put (msg.SnapshotMarker start end flags) line) = 2
 most_calls ended (next.Put (msg.SetVbucketState role) line) = 2
@@ -53,6 +57,7 @@ most_calls ended (next.Put m line) = 0
 most_calls ended (next.End reason) = if reason == 0 then 1 else if ended then 0 else 2
 most_calls ended (next.Quiet waits.State) = 0
 most_calls ended (next.Quiet for) = 2
+most_calls ended next.Disk = 1
 
 abbrev pub total : List ℕ → ℕ
 total [] = 0

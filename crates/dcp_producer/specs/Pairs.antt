@@ -1,5 +1,5 @@
 -- the frames that a pull puts, and the lines that tell of them, pair by pair, in words beside the definitions
-use Rattle.std.specs.Prelude.{◌≡◌, ◌⊎◌, ℕ, ◌+◌, ◌<◌, List, ◌++◌, length, map, Option, Some, None}
+use Rattle.std.specs.Prelude.{◌≡◌, ◌⊎◌, ℕ, Bool, ◌+◌, ◌<◌, List, ◌++◌, length, map, Option, Some, None}
 use Rattle.std.specs.List.{All, Contains, concat}
 use Rattle.mcbp_frame.specs.Spelling.{spelling}
 use Rattle.mcbp_frame.specs.declared.frame.Frame.{Frame}
@@ -8,6 +8,7 @@ use Rattle.mcbp_dcp.specs.declared.message.DcpMsg.TheVariants as msg
 use Rattle.vb_types.specs.Histories.{plain_act}
 use Rattle.vb_types.specs.declared.change.Change.{Change}
 use Rattle.vb_types.specs.declared.role.Role.{Role}
+use Rattle.vb_types.specs.declared.stream.Snapshot.{Snapshot}
 use Rattle.vb_types.specs.declared.role.Role.TheVariants as role
 use Rattle.vb_events.specs.declared.event.Event.{Event}
 use Rattle.vb_events.specs.declared.event.Event.TheVariants as event
@@ -16,6 +17,10 @@ use Rattle.vb_calls.specs.declared.calls.VbAnswer.{VbAnswer}
 use Rattle.vb_calls.specs.declared.calls.VbAnswer.TheVariants as answer
 use Rattle.vb_calls.specs.declared.calls.VbCall.{VbCall}
 use Rattle.vb_calls.specs.declared.calls.VbReply.{VbReply}
+use Rattle.vb_calls.specs.Jobs.{Job, Ended, Call, Request, IsRead}
+use Rattle.vb_calls.specs.Shelves.{Ask, Got, Read, Reading}
+use Rattle.backfill.specs.Backfills.{backfilled}
+use Rattle.backfill.specs.declared.backfilled.Backfilled.TheVariants as filled
 use Rattle.dcp_producer.specs.declared.halt.Halt.{Halt}
 use Rattle.dcp_producer.specs.declared.halt.Halt.TheVariants as halt
 use Rattle.dcp_producer.specs.Frames.{act_message, act_sent}
@@ -100,6 +105,24 @@ GaveSpelled other = Unit {0}
 abbrev pub GivesSpelled : VbCall → Option VbReply → Type 0
 GivesSpelled call None = Unit {0}
 GivesSpelled call (Some reply) = GaveSpelled reply.answer
+
+-- and a journal none, from whatever place, up to whatever end and of whatever kind of stream it is read
+abbrev pub ReadSpelled : Reading → Type 0
+ReadSpelled reading = (start end : ℕ) (sync : Bool) (snapshot : Snapshot) → backfilled start end sync reading ≡ filled.Snapshot snapshot → All IsSpelledChange snapshot.items
+
+abbrev pub GotSpelled : (ask : Ask) → Got ask → Type 0
+GotSpelled Read reading = ReadSpelled reading
+GotSpelled other got = Unit {0}
+
+-- whatever is answered
+abbrev pub AnyGot : (ask : Ask) → Got ask → Type 0
+AnyGot ask got = Unit {0}
+
+-- Whatever replies of one kind and answers of journals of another kind a job gets, each call that it makes is of a third kind, it reads of journals alone, and the answer that it comes to is of a fourth.
+abbrev pub AlwaysGot : {A : Type 0} → (VbCall → Option VbReply → Type 0) → ((ask : Ask) → Got ask → Type 0) → (ℕ → VbCall → Type 0) → (A → Type 0) → Job A → Type 0
+AlwaysGot replies gots calls answers (Ended a) = answers a
+AlwaysGot replies gots calls answers (Call v call next) = calls v call × ((reply : Option VbReply) → replies call reply → AlwaysGot replies gots calls answers (next reply))
+AlwaysGot replies gots calls answers (Request v ask next) = IsRead v ask × ((got : Got ask) → gots ask got → AlwaysGot replies gots calls answers (next got))
 
 -- whatever a change is
 abbrev pub AnyChange : Change → Type 0

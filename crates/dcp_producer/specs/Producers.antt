@@ -24,13 +24,16 @@ abbrev pub is_ended : StreamState → Bool
 is_ended state.Memory = false
 is_ended state.Ended = true
 
--- a stream: the number under which its vBucket opened it, of which vBucket it is, with which opaque its frames go, the end that its consumer asked for, and how its first snapshot is sent; the snapshot that was taken last, how many of its items have been put, and the END of its marker, if any was sent; the last seqno that its consumer may have (the requested start, or that of the last item that was put where it is greater), whether a change of role ended it, and, of one that gives its vBucket up to its consumer's, how far that is
+-- a stream: the number under which its vBucket opened it, of which vBucket it is, with which opaque its frames go, the end that its consumer asked for, how its first snapshot is sent, and whether prepares, commits and aborts are sent; up to where its consumer was told of changes (the requested start, or the END of the last marker), and the end of a backfill that was answered and not read, if there is one; the snapshot that was taken last, how many of its items have been put, and the END of its marker, if any was sent; the last seqno that its consumer may have (the requested start, or that of the last item that was put where it is greater), whether a change of role ended it, and, of one that gives its vBucket up to its consumer's, how far that is
 pub record PlainStream : Type 0 where
   pub id : ℕ
   pub vb : ℕ
   pub opaque : ℕ
   pub until : ℕ
   pub first : First
+  pub sync : Bool
+  pub place : ℕ
+  pub unread : Option ℕ
   pub items : List Change
   pub next : ℕ
   pub marked : Option ℕ

@@ -33,13 +33,14 @@ use Rattle.dcp_producer.specs.Serving.{stream_request}
 abbrev pub number_behind : ℕ → PlainProducer → ℕ
 number_behind asked end = end.desk.base * 4294967296 + (asked + 1)
 
--- a stream that has just begun, under this number: nothing of it was taken, marked or put, and its consumer has all up to the start that it asked for; with the flag 1, and with no other, it gives its vBucket up, and is in the first step
+-- a stream that has just begun, under this number: nothing of it was taken, marked or put, and its consumer has all up to the start that it asked for, up to which alone it was told of changes; with the flag 1, and with no other, it gives its vBucket up, and is in the first step
 pub record Begins (id : ℕ) (f : Frame) (ask : StreamAsk) (stream : PlainStream) : Type 0 where
   pub number : stream.id ≡ id
   pub vb : stream.vb ≡ f.vb_or_status
   pub opaque : stream.opaque ≡ f.opaque
   pub until : stream.until ≡ ask.end
   pub first : MeansFirst ask stream.first
+  pub place : stream.place ≡ ask.start
   pub items : stream.items ≡ []
   pub next : stream.next ≡ 0
   pub marked : stream.marked ≡ None

@@ -10,7 +10,8 @@ use Rattle.vb_calls.specs.declared.calls.VbCall.{VbCall}
 use Rattle.vb_calls.specs.declared.calls.VbCall.TheVariants as call
 use Rattle.vb_calls.specs.declared.calls.VbAnswer.{VbAnswer}
 use Rattle.vb_calls.specs.declared.calls.VbAnswer.TheVariants as answer
-use Rattle.vb_calls.specs.Programs.{Prog, Done, Call}
+use Rattle.vb_calls.specs.Jobs.{Job, Ended, Call, Request}
+use Rattle.vb_calls.specs.Shelves.{no_answer}
 use Rattle.vb_calls.specs.State.{quiet_reply}
 use Rattle.vb_types.specs.declared.stream.Place.TheVariants as place
 use Rattle.flow_control.specs.Windows.{new_window}
@@ -29,28 +30,30 @@ some_desk = record { stream = name.Link 1; node = 2; base = 7 }
 abbrev pub with_streams : List PlainStream → ℕ → PlainProducer
 with_streams streams turn = record { desk = some_desk; handshake = handshake.Open true (named.Member 4); asked = 9; streams = streams; turn = turn; window = new_window 0 }
 
--- what a program comes to where each call is answered with nothing, as by vBuckets that are absent; and the calls that it makes
-abbrev pub alone : {A : Type 0} → Prog A → A
-alone (Done a) = a
+-- what a job comes to where each call is answered with nothing, as by vBuckets that are absent, and each request as by journals that are; and the calls that it makes
+abbrev pub alone : {A : Type 0} → Job A → A
+alone (Ended a) = a
 alone (Call v call next) = alone (next None)
+alone (Request v ask next) = alone (next (no_answer ask))
 
-abbrev pub asked_in : {A : Type 0} → Prog A → List (ℕ × VbCall)
-asked_in (Done a) = []
+abbrev pub asked_in : {A : Type 0} → Job A → List (ℕ × VbCall)
+asked_in (Ended a) = []
 asked_in (Call v call next) = (v, call) ∷ asked_in (next None)
+asked_in (Request v ask next) = asked_in (next (no_answer ask))
 
 -- a pull of so many frames
-abbrev pub pull : ℕ → PlainProducer → Prog (Served × Halt)
+abbrev pub pull : ℕ → PlainProducer → Job (Served × Halt)
 pull frames end = frames_put frames (begun end)
 
 -- what it told, how many frames it counted, why it put no more, and the connection then
-abbrev pub lines_in : Prog (Served × Halt) → List Event
-lines_in prog = (alone prog).0.events
+abbrev pub lines_in : Job (Served × Halt) → List Event
+lines_in job = (alone job).0.events
 
-abbrev pub count_in : Prog (Served × Halt) → ℕ × Halt
-count_in prog = ((alone prog).0.count, (alone prog).1)
+abbrev pub count_in : Job (Served × Halt) → ℕ × Halt
+count_in job = ((alone job).0.count, (alone job).1)
 
-abbrev pub end_in : Prog (Served × Halt) → PlainProducer
-end_in prog = (alone prog).0.end
+abbrev pub end_in : Job (Served × Halt) → PlainProducer
+end_in job = (alone job).0.end
 
 -- ---- one stream of two items
 
@@ -63,14 +66,14 @@ later = record { seq = 8; key = 98 ∷ []; act = act.Abort 4 }
 
 -- a stream of the vBucket 3 with both, of which so many were put, and which a change of role ended or did not end
 abbrev pub some_stream : ℕ → ℕ → Bool → PlainStream
-some_stream next reached ended = record { id = 7; vb = 3; opaque = 9; until = 99; first = record { start = 0; as_sets = false }; items = earlier ∷ later ∷ []; next = next; marked = Some 8; reached = reached; ended = ended; gives = None }
+some_stream next reached ended = record { id = 7; vb = 3; opaque = 9; until = 99; first = record { start = 0; as_sets = false }; sync = true; place = 8; unread = None; items = earlier ∷ later ∷ []; next = next; marked = Some 8; reached = reached; ended = ended; gives = None }
 
 -- a pull of so many frames of it alone, which has its turn first or last
-abbrev pub pull_of_it : ℕ → PlainStream → Prog (Served × Halt)
+abbrev pub pull_of_it : ℕ → PlainStream → Job (Served × Halt)
 pull_of_it frames stream = pull frames (with_streams (stream ∷ []) 0)
 
-abbrev pub streams_in : Prog (Served × Halt) → List PlainStream
-streams_in prog = (end_in prog).streams
+abbrev pub streams_in : Job (Served × Halt) → List PlainStream
+streams_in job = (end_in job).streams
 
 -- their lines, and that of the end
 abbrev pub first_line : Event
@@ -94,12 +97,12 @@ pub record PutInTurn : Type 0 where
   pub no_stream : (lines_in (pull 5 (with_streams [] 0)) ≡ []) × (count_in (pull 5 (with_streams [] 0)) ≡ (0, halt.Idle))
 
 -- a pull of so many frames of that ended stream, through a window of this size
-abbrev pub pull_through : ℕ → ℕ → Prog (Served × Halt)
+abbrev pub pull_through : ℕ → ℕ → Job (Served × Halt)
 pull_through frames size = pull frames (record (with_streams (some_stream 0 4 true ∷ []) 0) { window = new_window size })
 
 -- what is outstanding then
-abbrev pub outstanding_in : Prog (Served × Halt) → ℕ
-outstanding_in prog = (end_in prog).window.outstanding
+abbrev pub outstanding_in : Job (Served × Halt) → ℕ
+outstanding_in job = (end_in job).window.outstanding
 
 -- The frames of that stream have 43, 41 and 28 bytes. The window is asked for each: the last one that goes passes over the size, and behind all that were asked for it is not asked.
 pub record HeldAtEdge : Type 0 where
@@ -117,7 +120,7 @@ abbrev pub removal : ℕ → Change
 removal seq = record { seq = seq; key = 97 ∷ []; act = act.Remove 50 1 }
 
 abbrev pub stream_of : ℕ → ℕ → ℕ → List ℕ → PlainStream
-stream_of id until end seqs = record { id = id; vb = id; opaque = 9; until = until; first = record { start = 0; as_sets = false }; items = map removal seqs; next = 0; marked = Some end; reached = 0; ended = false; gives = None }
+stream_of id until end seqs = record { id = id; vb = id; opaque = 9; until = until; first = record { start = 0; as_sets = false }; sync = true; place = end; unread = None; items = map removal seqs; next = 0; marked = Some end; reached = 0; ended = false; gives = None }
 
 -- the removals of these seqnos were put, in this order
 abbrev pub item_of : ℕ → Event
@@ -166,9 +169,10 @@ pub record EndsBehindItems : Type 0 where
 
 -- ---- a stream that its vBucket lost
 
--- what a program comes to where its first calls are answered so, and each later one with nothing, as by a vBucket that is absent
-abbrev pub answered_so : {A : Type 0} → List VbAnswer → Prog A → A
-answered_so said (Done a) = a
+-- what a job comes to where its first calls are answered so, and each later one with nothing, as by a vBucket that is absent
+abbrev pub answered_so : {A : Type 0} → List VbAnswer → Job A → A
+answered_so said (Ended a) = a
+answered_so said (Request v ask next) = answered_so said (next (no_answer ask))
 answered_so [] (Call v call next) = answered_so [] (next None)
 answered_so (a ∷ said) (Call v call next) = answered_so said (next (Some (quiet_reply a)))
 

@@ -24,6 +24,8 @@ use Rattle.vb_types.specs.declared.stream.AskAnswer.TheVariants as ask_answer
 use Rattle.vb_types.specs.declared.role.LogEntry.{LogEntry}
 use Rattle.vb_types.specs.declared.status.Status.{Status}
 use Rattle.vb_types.specs.declared.status.Status.TheVariants as status
+use Rattle.vb_types.specs.declared.stream.Place.{Place}
+use Rattle.vb_types.specs.declared.stream.Place.TheVariants as place
 use Rattle.vb_types.specs.declared.stream.StreamAsk.{StreamAsk}
 use Rattle.vb_types.specs.Statuses.{status_code}
 use Rattle.vb_calls.specs.declared.calls.VbCall.TheVariants as call
@@ -184,6 +186,21 @@ abbrev pub ask_verdict : Option VbReply → AskAnswer
 ask_verdict None = refuse status.NotMyVbucket
 ask_verdict (Some reply) = verdict_of reply.answer
 
+-- where the changes of an opened stream come from, as its vBucket's answer tells it
+abbrev pub place_opened : VbAnswer → Place
+place_opened (answer.Opened log high from) = from
+place_opened other = place.Memory
+
+-- the same of a reply
+abbrev pub place_of_reply : Option VbReply → Place
+place_of_reply None = place.Memory
+place_of_reply (Some reply) = place_opened reply.answer
+
+-- the end of a backfill, where changes come from the journal
+abbrev pub unread_of : Place → Option ℕ
+unread_of (place.Backfill end) = Some end
+unread_of other = None
+
 -- how many streams one connection may ask vBuckets to open
 abbrev pub MOST_STREAMS : ℕ
 MOST_STREAMS = 2 ^ 32 - 1
@@ -224,21 +241,44 @@ stream_verdict log (ask_answer.Refuse code) = told.Refused code
 abbrev pub gives_of : ℕ → Option GiveUp
 gives_of flags = if flags == 1 then Some new_give_up else None
 
--- a stream begins with no snapshot taken, and its consumer has all up to the start that it asked for
-abbrev pub new_stream : ℕ → Frame → StreamAsk → PlainStream
-new_stream id f ask = record { id = id; vb = f.vb_or_status; opaque = f.opaque; until = ask.end; first = first_of ask; items = []; next = 0; marked = None; reached = ask.start; ended = false; gives = gives_of ask.flags }
+-- a stream begins with no snapshot taken, and its consumer has all up to the start that it asked for; where its first changes come from the journal, they are still to be read
+abbrev pub new_stream : ℕ → Frame → StreamAsk → Bool → Place → PlainStream
+new_stream id f ask sync from = record {
+  id = id;
+  vb = f.vb_or_status;
+  opaque = f.opaque;
+  until = ask.end;
+  first = first_of ask;
+  sync = sync;
+  place = ask.start;
+  unread = unread_of from;
+  items = [];
+  next = 0;
+  marked = None;
+  reached = ask.start;
+  ended = false;
+  gives = gives_of ask.flags;
+}
 
 -- a request that is let continue makes a stream of this number
-abbrev pub with_granted : PlainProducer → ℕ → Frame → StreamAsk → AskAnswer → PlainProducer
-with_granted end id f ask ask_answer.Go = with_opened (new_stream id f ask) end
-with_granted end id f ask (ask_answer.Roll to) = end
-with_granted end id f ask (ask_answer.Refuse code) = end
+abbrev pub with_granted : PlainProducer → ℕ → Frame → StreamAsk → Place → AskAnswer → PlainProducer
+with_granted end id f ask from ask_answer.Go = with_opened (new_stream id f ask (is_sync end.handshake) from) end
+with_granted end id f ask from (ask_answer.Roll to) = end
+with_granted end id f ask from (ask_answer.Refuse code) = end
 
--- a stream that was listed is one of the connection only where the vBucket lets it continue
-abbrev pub kept_listed : AskAnswer → ℕ → PlainProducer → PlainProducer
-kept_listed ask_answer.Go id end = end
-kept_listed (ask_answer.Roll to) id end = without_stream id end
-kept_listed (ask_answer.Refuse code) id end = without_stream id end
+-- where a stream's first changes come from is known now
+abbrev pub with_source : Place → PlainStream → PlainStream
+with_source from stream = record stream { unread = unread_of from }
+
+-- the same of the stream of a number
+abbrev pub with_source_at : Place → ℕ → PlainStream → PlainStream
+with_source_at from id stream = if stream.id == id then with_source from stream else stream
+
+-- a stream that was listed is one of the connection only where the vBucket lets it continue, and then where its first changes come from is known
+abbrev pub kept_listed : AskAnswer → Place → ℕ → PlainProducer → PlainProducer
+kept_listed ask_answer.Go from id end = record end { streams = map (with_source_at from id) end.streams }
+kept_listed (ask_answer.Roll to) from id end = without_stream id end
+kept_listed (ask_answer.Refuse code) from id end = without_stream id end
 
 -- the line of an answer to a request for a stream: the last seqno and the failover log are the producer's own
 abbrev pub ask_line : Desk → Frame → StreamAsk → List LogEntry → ℕ → AskAnswer → Event
@@ -257,7 +297,7 @@ stream_answered f ask s log high verdict = record {
 -- the vBucket's answer to a request under a number of its own
 abbrev pub opened_answered : Frame → StreamAsk → Served → Option VbReply → Served
 opened_answered f ask s reply =
-    stream_answered f ask (record s { end = with_granted (with_asked s.end) (next_stream s.end) f ask (ask_verdict reply) })
+    stream_answered f ask (record s { end = with_granted (with_asked s.end) (next_stream s.end) f ask (place_of_reply reply) (ask_verdict reply) })
     (log_of_reply reply) (high_of_reply reply) (ask_verdict reply)
 
 -- the vBucket is asked to open a stream, under a number of its own

@@ -22,7 +22,7 @@ use Rattle.dcp_producer.specs.Giving.{Yields}
 use Rattle.dcp_producer.specs.Holding.{IsShut}
 use Rattle.dcp_producer.specs.Producers.{PlainStream, PlainProducer, Served}
 use Rattle.dcp_producer.specs.Pulling.{why_of}
-use Rattle.dcp_producer.specs.Pulls.{OneWaits, PullsInTurn}
+use Rattle.dcp_producer.specs.Pulls.{OneStops, OneWaits, PullsInTurn}
 use Rattle.dcp_producer.specs.Turns.{put_in}
 
 -- ---- what a stream puts
@@ -35,7 +35,7 @@ PutsState name told comes = comes ≡ next.Put (msg.SetVbucketState told) (event
 abbrev pub PutsNone : NextFrame → Type 0
 PutsNone comes = (told : Role) (line : Event) → comes ≡ next.Put (msg.SetVbucketState told) line → ⊥
 
--- its changes come from memory, and its vBucket has no snapshot for it: all was sent
+-- its changes come from memory, or its journal gave none, and its vBucket has no snapshot for it: all was sent
 abbrev pub IsUp : PlainStream → List Made → Type 0
 IsUp stream made = (reply : Option VbReply) × IsSaid reply answer.Nothing × AskedTake stream made reply
 
@@ -114,15 +114,16 @@ NoneAwaits opaque streams = All (λ stream. Awaits opaque stream → ⊥) stream
 
 -- ---- why a pull puts no more
 
--- The line says that all were put exactly where as many were as were asked for; that the window is shut exactly where fewer were, and it is left shut; next that one waits for the answer to a state exactly where a stream that was asked said so; next that one waits for what is to be saved exactly where a stream said that; and that there is no more exactly where none said either
+-- The line says that all were put exactly where as many were as were asked for; that the window is shut exactly where fewer were, and it is left shut; next that a journal can't be read exactly where a stream that was asked said so; next that one waits for the answer to a state exactly where a stream that was asked said so; next that one waits for what is to be saved exactly where a stream said that; and that there is no more exactly where none said either
 pub record WaitsInOrder (k : ℕ) (s : Served) (made : List Made) (left : Served) (halted : Halt) : Type 0 where
   pub pull : PullsInTurn k s made left halted
   pub put : ℕ
   pub many : put ≡ length (put_in s.end.desk.stream pull.tries)
   pub all : (why_of halted ≡ why.All) ↔ (put ≡ k)
   pub full : (why_of halted ≡ why.Full) ↔ ((put < k) × IsShut left.end.window)
-  pub states : (why_of halted ≡ why.WaitState) ↔ ((put < k) × (IsShut left.end.window → ⊥) × OneWaits waits.State pull.tries)
+  pub disk : (why_of halted ≡ why.Disk) ↔ ((put < k) × (IsShut left.end.window → ⊥) × OneStops pull.tries)
+  pub states : (why_of halted ≡ why.WaitState) ↔ ((put < k) × (IsShut left.end.window → ⊥) × (OneStops pull.tries → ⊥) × OneWaits waits.State pull.tries)
   pub saves : (why_of halted ≡ why.WaitSaved)
-      ↔ ((put < k) × (IsShut left.end.window → ⊥) × (OneWaits waits.State pull.tries → ⊥) × OneWaits waits.Saved pull.tries)
+      ↔ ((put < k) × (IsShut left.end.window → ⊥) × (OneStops pull.tries → ⊥) × (OneWaits waits.State pull.tries → ⊥) × OneWaits waits.Saved pull.tries)
   pub idle : (why_of halted ≡ why.Idle)
-      ↔ ((put < k) × (IsShut left.end.window → ⊥) × (OneWaits waits.State pull.tries → ⊥) × (OneWaits waits.Saved pull.tries → ⊥))
+      ↔ ((put < k) × (IsShut left.end.window → ⊥) × (OneStops pull.tries → ⊥) × (OneWaits waits.State pull.tries → ⊥) × (OneWaits waits.Saved pull.tries → ⊥))

@@ -1,6 +1,7 @@
 //! A stream: the snapshot that it was given last, and how far it was put.
 ghost use Rattle.std.specs.Prelude.{◌≡◌, ◌&&◌, ◌==◌, ◌+◌, ◌^◌, ◌<◌, slice_get, IfOk, IsSome, true, Some};
-ghost use Rattle.{std.specs.Option.{option_copied, option_map}, dcp_producer.specs.Ending.{ended_in}, dcp_producer.specs.Firsts.{as_sent}, dcp_producer.specs.Frames.{past_item, reaches_end, with_snapshot}, dcp_producer.specs.Giving.{is_due}, dcp_producer.specs.Serving.{gives_of, heard, new_stream}, takeover.specs.GivingUp.{done}};
+ghost use Rattle.{std.specs.Option.{option_copied, option_map}, dcp_producer.specs.Ending.{ended_in}, dcp_producer.specs.Firsts.{as_sent}, dcp_producer.specs.Frames.{past_item, reaches_end, with_snapshot}, dcp_producer.specs.Giving.{is_due}, dcp_producer.specs.Serving.{gives_of, heard, new_stream, unread_of, with_source_at}, takeover.specs.GivingUp.{done}};
+ghost use Rattle.vb_types.specs.declared.stream.Place.TheVariants.{Memory};
 
 use crate::first::first_items;
 use crate::{Alloc, First};
@@ -8,12 +9,12 @@ use mcbp_frame::Frame;
 use std::alloc::Global;
 use std::marker::Model;
 use takeover::{GiveStep, GiveUp};
-use vb_types::{Change, Listed, Snapshot, StreamAsk};
+use vb_types::{Change, Listed, Place, Snapshot, StreamAsk};
 
 /// Whether a stream is given more snapshots.
 #[derive(Clone, Copy)]
 pub enum StreamState {
-    /// Its vBucket gives them out of its memory.
+    /// It is.
     Memory,
     /// A change of role ended the stream.
     Ended,
@@ -21,9 +22,12 @@ pub enum StreamState {
 
 /// A stream that was opened: under which number, of which vBucket, and with which opaque its frames
 /// go. Of the snapshot that was taken last, the items before `next` have been put; `marked` is the
-/// END of its marker; the first one is sent by `first`. Its consumer asked for all up to `until`, and may have all up to `reached`:
-/// the start that it asked for, or the last item that was put. One that gives its vBucket up to its
-/// consumer's has in `gives` how far that is.
+/// END of its marker; the first one is sent by `first`, and prepares, commits and aborts go where it
+/// is `sync`. Its consumer asked for all up to `until`, was told of changes up to `place`, which is the
+/// start that it asked for or the END of the last marker, and may have all up to `reached`: that start,
+/// or the last item that was put. `unread` is the end of a backfill that its vBucket told it to go on
+/// with and that is not read. One that gives its vBucket up to its consumer's has in `gives` how far
+/// that is.
 #[derive(Drop)]
 pub struct ActiveStream {
     pub id: u64,
@@ -31,6 +35,9 @@ pub struct ActiveStream {
     pub opaque: u32,
     until: u64,
     first: First,
+    pub sync: bool,
+    pub place: u64,
+    pub unread: Option<u64>,
     items: Listed<Change>,
     next: usize,
     marked: Option<u64>,
@@ -44,7 +51,7 @@ impl Model for ActiveStream {
 
     ghost Value = { PlainStream };
 
-    ghost view = { λ s. record { id = s.id; vb = s.vb; opaque = s.opaque; until = s.until; first = s.first; items = s.items; next = s.next; marked = s.marked; reached = s.reached; ended = is_ended s.state; gives = s.gives } };
+    ghost view = { λ s. record { id = s.id; vb = s.vb; opaque = s.opaque; until = s.until; first = s.first; sync = s.sync; place = s.place; unread = s.unread; items = s.items; next = s.next; marked = s.marked; reached = s.reached; ended = is_ended s.state; gives = s.gives } };
 }
 
 /// How far a stream with these flags is in giving its vBucket up, if it does.
@@ -58,10 +65,21 @@ fn gives_for(flags: u32) -> Option<GiveUp>
     }
 }
 
+/// The end of a backfill, where changes come from the journal.
+fn unread_of(from: Place) -> Option<u64>
+    ensures { result ≡ unread_of from }
+{
+    match from {
+        Place::Backfill(end) => Some(end),
+        Place::Memory | Place::WaitSaved => None,
+    }
+}
+
 impl ActiveStream {
-    /// The stream of this number that this request asks for.
-    pub fn new(alloc: Global, id: u64, request: &Frame, ask: &StreamAsk) -> ActiveStream
-        ensures { result ≡ new_stream id request.now ask.now }
+    /// The stream of this number that this request asks for, before it is known where its first changes
+    /// come from.
+    pub fn new(alloc: Global, id: u64, request: &Frame, ask: &StreamAsk, sync: bool) -> ActiveStream
+        ensures { result ≡ new_stream id request.now ask.now sync Memory }
     {
         ActiveStream {
             id,
@@ -69,12 +87,24 @@ impl ActiveStream {
             opaque: request.opaque,
             until: ask.end,
             first: First::of(ask),
+            sync,
+            place: ask.start,
+            unread: None,
             items: Listed::new(alloc),
             next: 0,
             marked: None,
             reached: ask.start,
             state: StreamState::Memory,
             gives: gives_for(ask.flags),
+        }
+    }
+
+    /// Where its first changes come from is known now, if it has this number.
+    pub fn begin_if(&mut self, id: u64, from: Place)
+        ensures { self.new ≡ with_source_at from id self.old }
+    {
+        if self.id == id {
+            self.unread = unread_of(from);
         }
     }
 
@@ -209,6 +239,7 @@ impl ActiveStream {
         ensures { self.new ≡ with_snapshot self.old snapshot }
     {
         self.marked = Some(snapshot.end);
+        self.place = snapshot.end;
         self.items = snapshot.items;
         self.next = 0;
     }

@@ -1,8 +1,9 @@
 //! How a producer answers the requests of a connection.
 ghost use Rattle.std.specs.Prelude.{◌≡◌, ◌<◌, ◌-◌, ◌^◌, IfOk, OnOk, OnErr};
-ghost use Rattle.dcp_producer.specs.Serving.{with_frame, ask_verdict, high_of_reply, kept_listed, log_of_reply, set_answered, sized_as, control_answered, close_requested, log_requested, log_sent, IsSendable, new_stream, next_stream, noop_answered, opening_requested, refusal_requested, request_refusal, response_heard, stream_verdict, stream_answered, stream_request, with_asked, message_answered, read_answered, frame_answered};
-ghost use Rattle.{dcp_producer.specs.Producers.{with_opened, without_stream}, dcp_producer.specs.Wanting.{Cut, Sent}, mcbp_dcp.specs.DcpFrames.{dcp_frame, IsVerdict}, mcbp_dcp.specs.declared.message.DcpMsg.TheVariants.{StreamAnswer}};
+ghost use Rattle.dcp_producer.specs.Serving.{with_frame, ask_verdict, high_of_reply, kept_listed, log_of_reply, place_of_reply, with_granted, set_answered, sized_as, control_answered, close_requested, log_requested, log_sent, IsSendable, new_stream, next_stream, noop_answered, opening_requested, refusal_requested, request_refusal, response_heard, stream_verdict, stream_answered, stream_request, with_asked, message_answered, read_answered, frame_answered};
+ghost use Rattle.{dcp_producer.specs.Producers.{is_sync, with_opened, without_stream}, dcp_producer.specs.Wanting.{Cut, Sent}, mcbp_dcp.specs.DcpFrames.{dcp_frame, IsVerdict}, mcbp_dcp.specs.declared.message.DcpMsg.TheVariants.{StreamAnswer}};
 ghost use Rattle.{mcbp_dcp.specs.declared.message.StreamVerdict.TheVariants.{Go, Roll}, vb_calls.specs.Programs.{Ran}};
+ghost use Rattle.vb_types.specs.declared.stream.{AskAnswer.{AskAnswer as Verdict}, Place.{Place as Source}, Place.TheVariants.{Memory}};
 
 use crate::replies::{Standing, log_of, standing_of};
 use crate::{ActiveStream, Alloc, Connection, Handshake, close_stream};
@@ -10,7 +11,7 @@ use mcbp_dcp::{DcpFault, DcpMsg, Opcode, StreamVerdict, is_dcp, read_dcp};
 use mcbp_frame::{Frame, RESPONSE};
 use vb_calls::{VbAccess, VbCall, VbReply};
 use vb_events::Event;
-use vb_types::{AskAnswer, Listed, LogEntry, Status, StreamAsk};
+use vb_types::{AskAnswer, Listed, LogEntry, Place, Status, StreamAsk};
 
 impl Connection {
     /// Answers OPEN or CONTROL, by what it sets or why it is refused.
@@ -135,22 +136,26 @@ impl Connection {
     fn begin_stream(&mut self, f: &Frame, ask: &StreamAsk) -> Alloc<u64>
         requires { self.old.end.asked < 2 ^ 32 - 1 }
         ensures id { IfOk result (λ id. id ≡ next_stream self.old.end) }
-        ensures ok { OnOk result (self.new ≡ record self.old { end = with_opened (new_stream (next_stream self.old.end) f.now ask.now) (with_asked self.old.end) }) }
+        ensures ok { OnOk result (self.new ≡ record self.old { end = with_opened (new_stream (next_stream self.old.end) f.now ask.now (is_sync self.old.end.handshake) Memory) (with_asked self.old.end) }) }
         ensures err { OnErr result (self.new ≡ record self.old { end = with_asked self.old.end }) }
-        ensures back { without_stream (next_stream self.old.end) (with_opened (new_stream (next_stream self.old.end) f.now ask.now) (with_asked self.old.end)) ≡ with_asked self.old.end }
+        ensures back { without_stream (next_stream self.old.end) (with_opened (new_stream (next_stream self.old.end) f.now ask.now (is_sync self.old.end.handshake) Memory) (with_asked self.old.end)) ≡ with_asked self.old.end }
+        ensures kept { (from : Source) (said : Verdict) → kept_listed said from (next_stream self.old.end) (with_opened (new_stream (next_stream self.old.end) f.now ask.now (is_sync self.old.end.handshake) Memory) (with_asked self.old.end)) ≡ with_granted (with_asked self.old.end) (next_stream self.old.end) f.now ask.now from said }
     {
         let id = u64::from(self.desk.base) * 4_294_967_296 + (u64::from(self.asked) + 1);
         self.asked += 1;
-        self.list_stream(ActiveStream::new(self.alloc, id, f, ask))?;
+        let sync = self.handshake.is_sync();
+        self.list_stream(ActiveStream::new(self.alloc, id, f, ask, sync))?;
         Ok(id)
     }
 
-    /// Has the stream that was listed under a number no more, unless it begins.
-    fn keep_listed(&mut self, id: u64, said: AskAnswer)
-        ensures { self.new ≡ record self.old { end = kept_listed said id self.old.end } }
+    /// Has the stream that was listed under a number no more, unless it begins; then it is known where
+    /// its first changes come from.
+    fn keep_listed(&mut self, id: u64, said: AskAnswer, from: Place)
+        ensures { self.new ≡ record self.old { end = kept_listed said from id self.old.end } }
     {
-        if said != AskAnswer::Go {
-            self.drop_stream(id);
+        match said {
+            AskAnswer::Go => self.source_stream(id, from),
+            AskAnswer::Roll(_) | AskAnswer::Refuse(_) => self.drop_stream(id),
         }
     }
 
@@ -163,10 +168,10 @@ impl Connection {
         reply: Option<VbReply>,
     ) -> Alloc<()>
         requires { IsVerdict (Go (log_of_reply reply)) }
-        ensures { Sent result self.new (stream_answered f.now ask.now (record self.old { end = kept_listed (ask_verdict reply) id self.old.end }) (log_of_reply reply) (high_of_reply reply) (ask_verdict reply)) }
+        ensures { Sent result self.new (stream_answered f.now ask.now (record self.old { end = kept_listed (ask_verdict reply) (place_of_reply reply) id self.old.end }) (log_of_reply reply) (high_of_reply reply) (ask_verdict reply)) }
     {
         let standing = standing_of(self.alloc, None, reply);
-        self.keep_listed(id, standing.said);
+        self.keep_listed(id, standing.said, standing.place);
         self.answer_stream(f, ask, standing)
     }
 

@@ -1,9 +1,9 @@
 //! What a client's connection is answered; each law as the contract of a function that does nothing.
 ghost use Rattle.std.specs.{Prelude.{◌≡◌, ◌++◌, ℕ, List, length, map}, List.{All, concat}};
-ghost use Rattle.dcp_producer.specs.{Clients.{AnswersOnce, AnyLog, AsksOf, CountsNothing, GivesLogs, IsShortLog}, Cuts.{IsShort, pieces}, Pairs.{AnyChange, AreSpelled, GivesSpelled, IsOneOf, IsSpelledChange, PullsPairs}, Handshaking.{Gets}, Having.{IsOpened}, Producers.{Served}, Pulling.{frames_put}, Serving.{frame_answered, message_answered}};
+ghost use Rattle.dcp_producer.specs.{Clients.{AnswersOnce, AnyLog, AsksOf, CountsNothing, GivesLogs, IsShortLog}, Cuts.{IsShort, pieces}, Pairs.{AlwaysGot, AnyChange, AreSpelled, GivesSpelled, GotSpelled, IsOneOf, IsSpelledChange, PullsPairs}, Handshaking.{Gets}, Having.{IsOpened}, Producers.{Served}, Pulling.{frames_put}, Serving.{frame_answered, message_answered}};
 ghost use Rattle.dcp_producer.specs.declared.desk.Handshake.TheVariants.{Fresh};
 ghost use Rattle.{mcbp_dcp.specs.declared.message.DcpMsg.TheVariants.{SeqnoAcknowledged}, mcbp_frame.specs.Spelling.{spelling}, mcbp_frame.specs.declared.frame.Frame.{Frame as FrameData}};
-ghost use Rattle.{vb_calls.specs.Programs.{Always, AlwaysWith, AnyCall}, vb_events.specs.declared.event.StreamName.TheVariants.{Client}};
+ghost use Rattle.{vb_calls.specs.{Jobs.{AlwaysJob, IsRead}, Programs.{Always, AlwaysWith, AnyCall, AnyReply}}, vb_events.specs.declared.event.StreamName.TheVariants.{Client}};
 
 /// SEQNO_ACKNOWLEDGED of a client's connection counts for nothing, whatever streams it has and whatever
 /// name its consumer gave: it is Einval before OPEN and NotSupported behind it, and no vBucket is asked.
@@ -37,10 +37,10 @@ pub fn headers_cut_frames()
 /// Whatever vBuckets reply, each frame that a pull puts has its line: the next item of a stream, in the
 /// message of its act, with its seqno, its act and its key; a marker, with its numbers; the end of a
 /// stream, with its reason; or a state, pending or active. It goes with the opaque and for the vBucket of a stream that the connection
-/// has. Where the messages of all items have spellings, those of its streams and those that vBuckets give,
-/// the items that are put are such.
+/// has. Where the messages of all items have spellings, those of its streams and those that vBuckets and
+/// journals give, the items that are put are such.
 pub fn frames_have_their_lines()
-    ensures any { (frames : ℕ) (s : Served) → Always AnyCall (PullsPairs (IsOneOf AnyChange s.end.streams) frames s) (frames_put frames s) }
+    ensures any { (frames : ℕ) (s : Served) → AlwaysJob AnyReply AnyCall IsRead (PullsPairs (IsOneOf AnyChange s.end.streams) frames s) (frames_put frames s) }
     ensures spelled { (frames : ℕ) (s : Served) → AreSpelled s.end.streams
-        → AlwaysWith GivesSpelled AnyCall (PullsPairs (IsOneOf IsSpelledChange s.end.streams) frames s) (frames_put frames s) }
+        → AlwaysGot GivesSpelled GotSpelled AnyCall (PullsPairs (IsOneOf IsSpelledChange s.end.streams) frames s) (frames_put frames s) }
 {}

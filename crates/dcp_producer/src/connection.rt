@@ -2,7 +2,7 @@
 ghost use Rattle.std.specs.Prelude.{◌≡◌, map, ◌<◌, ◌≤◌, ◌+◌, ◌*◌, ◌^◌, ◌==◌, OnOk, OnErr};
 ghost use Rattle.std.specs.{List.{All, position}, Option.{option_copied}};
 ghost use Rattle.{dcp_producer.specs.Dropping.{cursor_dropped}, dcp_producer.specs.Ending.{ended_in, ended_by, streams_closed, end_closed}, vb_calls.specs.Programs.{Ran}};
-ghost use Rattle.{dcp_producer.specs.Producers.{begun, new_end, stream_at, with_opened, without_id, without_stream}, dcp_producer.specs.Serving.{heard, with_event, with_frame, status_sent}, dcp_producer.specs.Wanting.{Sent}, mcbp_dcp.specs.DcpFrames.{dcp_frame, IsSpelled}};
+ghost use Rattle.{dcp_producer.specs.Producers.{begun, new_end, stream_at, with_opened, without_id, without_stream}, dcp_producer.specs.Serving.{heard, with_source_at, with_event, with_frame, status_sent}, dcp_producer.specs.Wanting.{Sent}, mcbp_dcp.specs.DcpFrames.{dcp_frame, IsSpelled}};
 ghost use Rattle.{mcbp_dcp.specs.declared.message.DcpMsg.TheVariants.{StreamAnswer}, mcbp_dcp.specs.declared.message.StreamVerdict.TheVariants.{Refused}};
 
 use crate::{ActiveStream, Alloc, Asked, Desk, Handshake, close_stream, drop_cursor};
@@ -15,7 +15,7 @@ use std::alloc::Global;
 use std::marker::Model;
 use vb_calls::{Resolved, VbAccess};
 use vb_events::Event;
-use vb_types::{Listed, Status};
+use vb_types::{Listed, Place, Status};
 
 /// A connection with its window and its streams, in the order in which they were opened, and with
 /// the lines that tell what happened in this call, the bytes for the consumer, how many frames of
@@ -83,6 +83,15 @@ fn hear_each(streams: &mut Vec<ActiveStream>, opaque: u32)
 {
     for stream in streams.iter_mut() {
         stream.hear(opaque);
+    }
+}
+
+/// Where the first changes of the stream of a number come from is known now.
+fn source_each(streams: &mut Vec<ActiveStream>, id: u64, from: Place)
+    ensures { streams.new.items ≡ map (with_source_at from id) streams.old.items }
+{
+    for stream in streams.iter_mut() {
+        stream.begin_if(id, from);
     }
 }
 
@@ -162,6 +171,13 @@ impl Connection {
         ensures { self.new ≡ record self.old { end = record self.old.end { streams = map (heard opaque) self.old.end.streams } } }
     {
         hear_each(&mut self.streams, opaque);
+    }
+
+    /// Where the first changes of the stream of a number come from is known now.
+    pub fn source_stream(&mut self, id: u64, from: Place)
+        ensures { self.new ≡ record self.old { end = record self.old.end { streams = map (with_source_at from id) self.old.end.streams } } }
+    {
+        source_each(&mut self.streams, id, from);
     }
 
     /// Closes the streams that no change of role ended, in the order in which they were opened.

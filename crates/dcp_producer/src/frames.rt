@@ -1,7 +1,8 @@
-//! The next frame of a stream, out of the snapshots that its vBucket gives.
+//! The next frame of a stream, out of the snapshots that its vBucket gives, or its vBucket's journal.
 ghost use Rattle.std.specs.Prelude.{◌≡◌, IfOk, OnErr, None};
-ghost use Rattle.dcp_producer.specs.Frames.{act_sent, alive_next, close_sent, none_next, role_of, state_next, state_put, step_next, item_line, item_frame, marker_flags, marker_next, take_answered, take_requested, placed_next, place_requested, more_next, next_frame, IsPuttable};
-ghost use Rattle.{dcp_producer.specs.Firsts.{as_sent}, dcp_producer.specs.Wanting.{standing}, vb_calls.specs.Programs.{Ran, Began}};
+ghost use Rattle.dcp_producer.specs.Frames.{ALL_SENT as SENT, act_sent, alive_next, changes_next, none_next, over, role_of, state_next, state_put, step_next, item_line, item_frame, marker_flags, marker_next, take_answered, placed_next, place_requested, more_next, next_frame, IsPuttable};
+ghost use Rattle.{dcp_producer.specs.Firsts.{as_sent}, dcp_producer.specs.Wanting.{standing}, vb_calls.specs.Jobs.{BeganJob, RanJob}, vb_calls.specs.Programs.{Ran, Began, Call, Done}};
+ghost use Rattle.vb_calls.specs.declared.calls.VbCall.TheVariants.{CloseStream, Take};
 
 use crate::messages::message_of;
 use crate::replies::{answer_of, place_said};
@@ -9,7 +10,7 @@ use crate::{ActiveStream, Alloc, NextFrame, Waits, close_stream};
 use mcbp_dcp::DcpMsg;
 use std::alloc::Global;
 use takeover::{GiveStep, GiveUp};
-use vb_calls::{VbAccess, VbAnswer, VbCall, VbReply};
+use vb_calls::{Journals, VbAccess, VbAnswer, VbCall, VbReply};
 use vb_events::{Event, ItemAct, StreamName};
 use vb_types::{Act, Change, Place, Role, Snapshot};
 
@@ -95,7 +96,7 @@ impl ActiveStream {
     }
 
     /// Goes to a snapshot that its vBucket gave, as it is sent.
-    fn mark_taken(
+    pub fn mark_taken(
         &mut self,
         alloc: Global,
         name: StreamName,
@@ -185,8 +186,8 @@ impl ActiveStream {
         vbs: &mut A,
         name: StreamName,
     ) -> Alloc<NextFrame>
-        ensures ok { IfOk result (λ next. Ran A.step (take_requested name self.old) vbs.old (next, self.new) vbs.new) }
-        ensures err { OnErr result (Began A.step (take_requested name self.old) vbs.old vbs.new) }
+        ensures ok { IfOk result (λ next. Ran A.step (Call self.old.vb (Take self.old.id) (λ reply. Done (take_answered name self.old reply))) vbs.old (next, self.new) vbs.new) }
+        ensures err { OnErr result (Began A.step (Call self.old.vb (Take self.old.id) (λ reply. Done (take_answered name self.old reply))) vbs.old vbs.new) }
         ensures same { standing self.new ≡ standing self.old }
         ensures spelled { IfOk result IsPuttable }
     {
@@ -194,22 +195,31 @@ impl ActiveStream {
         self.answer_take(alloc, name, reply)
     }
 
-    /// Takes the next snapshot where the next changes are in memory; a stream that its vBucket lost
-    /// is over.
-    fn go_on<A: VbAccess>(
+    /// Takes the next snapshot where the next changes are in memory, and also where they are in the
+    /// journal and the stream sees none of them; a stream that its vBucket lost is over.
+    #[tactic(auto, using(vb_calls::proofs::JobRuns::jobs, crate::proofs::ReadRuns::reads))]
+    fn go_on<A: VbAccess, J: Journals>(
         &mut self,
         alloc: Global,
         vbs: &mut A,
+        disks: &mut J,
         name: StreamName,
         from: Option<Place>,
     ) -> Alloc<NextFrame>
-        ensures ok { IfOk result (λ next. Ran A.step (placed_next name self.old from) vbs.old (next, self.new) vbs.new) }
-        ensures err { OnErr result (Began A.step (placed_next name self.old from) vbs.old vbs.new) }
+        ensures ok { IfOk result (λ next. RanJob A.step J.asks (placed_next name self.old from) vbs.old disks.old (next, self.new) vbs.new disks.new) }
+        ensures err { OnErr result (BeganJob A.step J.asks (placed_next name self.old from) vbs.old disks.old vbs.new disks.new) }
         ensures same { standing self.new ≡ standing self.old }
         ensures spelled { IfOk result IsPuttable }
     {
         match from {
             Some(Place::Memory) => self.take_snapshot(alloc, vbs, name),
+            Some(Place::Backfill(upto)) => {
+                self.unread = Some(upto);
+                match self.read_backfill(alloc, disks, name, upto)? {
+                    Some(next) => Ok(next),
+                    None => self.take_snapshot(alloc, vbs, name),
+                }
+            }
             Some(Place::WaitSaved) => Ok(NextFrame::Quiet {
                 waits: Waits::Saved,
             }),
@@ -219,26 +229,51 @@ impl ActiveStream {
         }
     }
 
-    /// Asks where the next changes come from, and takes the next snapshot where they are in memory.
-    fn place<A: VbAccess>(
+    /// Asks where the next changes come from, and goes on from there.
+    fn place<A: VbAccess, J: Journals>(
         &mut self,
         alloc: Global,
         vbs: &mut A,
+        disks: &mut J,
         name: StreamName,
     ) -> Alloc<NextFrame>
-        ensures ok { IfOk result (λ next. Ran A.step (place_requested name self.old) vbs.old (next, self.new) vbs.new) }
-        ensures err { OnErr result (Began A.step (place_requested name self.old) vbs.old vbs.new) }
+        ensures ok { IfOk result (λ next. RanJob A.step J.asks (place_requested name self.old) vbs.old disks.old (next, self.new) vbs.new disks.new) }
+        ensures err { OnErr result (BeganJob A.step J.asks (place_requested name self.old) vbs.old disks.old vbs.new disks.new) }
         ensures same { standing self.new ≡ standing self.old }
         ensures spelled { IfOk result IsPuttable }
     {
         let reply = vbs.call(self.vb, VbCall::Place { id: self.id })?;
-        self.go_on(alloc, vbs, name, place_said(reply))
+        self.go_on(alloc, vbs, disks, name, place_said(reply))
+    }
+
+    /// The next changes: those of a backfill that is not read come first, and then those of where the
+    /// vBucket says.
+    #[tactic(auto, using(vb_calls::proofs::JobRuns::jobs, crate::proofs::ReadRuns::reads))]
+    fn next_changes<A: VbAccess, J: Journals>(
+        &mut self,
+        alloc: Global,
+        vbs: &mut A,
+        disks: &mut J,
+        name: StreamName,
+    ) -> Alloc<NextFrame>
+        ensures ok { IfOk result (λ next. RanJob A.step J.asks (changes_next name self.old self.old.unread) vbs.old disks.old (next, self.new) vbs.new disks.new) }
+        ensures err { OnErr result (BeganJob A.step J.asks (changes_next name self.old self.old.unread) vbs.old disks.old vbs.new disks.new) }
+        ensures same { standing self.new ≡ standing self.old }
+        ensures spelled { IfOk result IsPuttable }
+    {
+        match self.unread {
+            Some(upto) => match self.read_backfill(alloc, disks, name, upto)? {
+                Some(next) => Ok(next),
+                None => self.place(alloc, vbs, disks, name),
+            },
+            None => self.place(alloc, vbs, disks, name),
+        }
     }
 
     /// Closes the stream at its vBucket: it is over, as all was sent.
     #[tactic(auto, using(vb_calls::proofs::Runs::runs))]
     fn close_sent<A: VbAccess>(&mut self, vbs: &mut A) -> NextFrame
-        ensures ran { Ran A.step (close_sent self.old) vbs.old (result, self.new) vbs.new }
+        ensures ran { Ran A.step (Call self.old.vb (CloseStream self.old.id) (λ reply. Done (over SENT self.old))) vbs.old (result, self.new) vbs.new }
         ensures same { self.new ≡ self.old }
         ensures spelled { IsPuttable result }
     {
@@ -248,21 +283,22 @@ impl ActiveStream {
 
     /// What a stream that gives its vBucket up puts in a step: the snapshots that there are, a state,
     /// or its end.
-    #[tactic(auto, using(vb_calls::proofs::Runs::runs))]
-    fn next_step<A: VbAccess>(
+    #[tactic(auto, using(vb_calls::proofs::JobRuns::jobs, crate::proofs::ReadRuns::reads))]
+    fn next_step<A: VbAccess, J: Journals>(
         &mut self,
         alloc: Global,
         vbs: &mut A,
+        disks: &mut J,
         name: StreamName,
         gives: GiveUp,
     ) -> Alloc<NextFrame>
-        ensures ok { IfOk result (λ next. Ran A.step (step_next name self.old gives gives.step) vbs.old (next, self.new) vbs.new) }
-        ensures err { OnErr result (Began A.step (step_next name self.old gives gives.step) vbs.old vbs.new) }
+        ensures ok { IfOk result (λ next. RanJob A.step J.asks (step_next name self.old gives gives.step) vbs.old disks.old (next, self.new) vbs.new disks.new) }
+        ensures err { OnErr result (BeganJob A.step J.asks (step_next name self.old gives gives.step) vbs.old disks.old vbs.new disks.new) }
         ensures same { standing self.new ≡ standing self.old }
         ensures spelled { IfOk result IsPuttable }
     {
         match gives.next() {
-            GiveStep::SendAll | GiveStep::SendRest => self.place(alloc, vbs, name),
+            GiveStep::SendAll | GiveStep::SendRest => self.next_changes(alloc, vbs, disks, name),
             GiveStep::End => Ok(self.close_sent(vbs)),
             _ => Ok(self.next_state(name, gives)),
         }
@@ -270,36 +306,38 @@ impl ActiveStream {
 
     /// What a stream puts that gives no vBucket up: its end, where all that was asked for was sent,
     /// and else the next snapshot.
-    #[tactic(auto, using(vb_calls::proofs::Runs::runs))]
-    fn next_fed<A: VbAccess>(
+    #[tactic(auto, using(vb_calls::proofs::JobRuns::jobs, crate::proofs::ReadRuns::reads))]
+    fn next_fed<A: VbAccess, J: Journals>(
         &mut self,
         alloc: Global,
         vbs: &mut A,
+        disks: &mut J,
         name: StreamName,
     ) -> Alloc<NextFrame>
         requires { self.old.gives ≡ None }
-        ensures ok { IfOk result (λ next. Ran A.step (alive_next name self.old None) vbs.old (next, self.new) vbs.new) }
-        ensures err { OnErr result (Began A.step (alive_next name self.old None) vbs.old vbs.new) }
+        ensures ok { IfOk result (λ next. RanJob A.step J.asks (alive_next name self.old None) vbs.old disks.old (next, self.new) vbs.new disks.new) }
+        ensures err { OnErr result (BeganJob A.step J.asks (alive_next name self.old None) vbs.old disks.old vbs.new disks.new) }
         ensures same { standing self.new ≡ standing self.old }
         ensures spelled { IfOk result IsPuttable }
     {
         if self.reaches_end() {
             return Ok(self.close_sent(vbs));
         }
-        self.place(alloc, vbs, name)
+        self.next_changes(alloc, vbs, disks, name)
     }
 
     /// What comes behind the items of the snapshot: the stream's end, where a change of role ended
     /// it, and else what it puts next.
-    #[tactic(auto, using(vb_calls::proofs::Runs::runs))]
-    fn next_marker<A: VbAccess>(
+    #[tactic(auto, using(vb_calls::proofs::JobRuns::jobs))]
+    fn next_marker<A: VbAccess, J: Journals>(
         &mut self,
         alloc: Global,
         vbs: &mut A,
+        disks: &mut J,
         name: StreamName,
     ) -> Alloc<NextFrame>
-        ensures ok { IfOk result (λ next. Ran A.step (more_next name self.old) vbs.old (next, self.new) vbs.new) }
-        ensures err { OnErr result (Began A.step (more_next name self.old) vbs.old vbs.new) }
+        ensures ok { IfOk result (λ next. RanJob A.step J.asks (more_next name self.old) vbs.old disks.old (next, self.new) vbs.new disks.new) }
+        ensures err { OnErr result (BeganJob A.step J.asks (more_next name self.old) vbs.old disks.old vbs.new disks.new) }
         ensures same { standing self.new ≡ standing self.old }
         ensures spelled { IfOk result IsPuttable }
     {
@@ -309,27 +347,28 @@ impl ActiveStream {
             });
         }
         match self.gives() {
-            Some(gives) => self.next_step(alloc, vbs, name, gives),
-            None => self.next_fed(alloc, vbs, name),
+            Some(gives) => self.next_step(alloc, vbs, disks, name, gives),
+            None => self.next_fed(alloc, vbs, disks, name),
         }
     }
 
     /// The next frame of the stream: the next item of the snapshot that was taken last, and behind
     /// the last one the stream's end or the next marker.
-    #[tactic(auto, using(vb_calls::proofs::Runs::runs), unfolding(crate::specs::Frames::next_frame))]
-    pub fn next_frame<A: VbAccess>(
+    #[tactic(auto, using(vb_calls::proofs::JobRuns::jobs), unfolding(crate::specs::Frames::next_frame))]
+    pub fn next_frame<A: VbAccess, J: Journals>(
         &mut self,
         alloc: Global,
         vbs: &mut A,
+        disks: &mut J,
         name: StreamName,
     ) -> Alloc<NextFrame>
-        ensures ok { IfOk result (λ next. Ran A.step (next_frame name self.old) vbs.old (next, self.new) vbs.new) }
-        ensures err { OnErr result (Began A.step (next_frame name self.old) vbs.old vbs.new) }
+        ensures ok { IfOk result (λ next. RanJob A.step J.asks (next_frame name self.old) vbs.old disks.old (next, self.new) vbs.new disks.new) }
+        ensures err { OnErr result (BeganJob A.step J.asks (next_frame name self.old) vbs.old disks.old vbs.new disks.new) }
         ensures same { standing self.new ≡ standing self.old }
         ensures spelled { IfOk result IsPuttable }
     {
         let Some(change) = self.item() else {
-            return self.next_marker(alloc, vbs, name);
+            return self.next_marker(alloc, vbs, disks, name);
         };
         let seq = change.seq;
         let next = item_frame(alloc, name, change)?;

@@ -19,6 +19,8 @@ pub enum Halt {
     /// No stream has anything to put, and the next changes of one are not all in memory; it waits
     /// until they are saved. None waits for the answer to a state.
     WaitSaved,
+    /// The journal of a stream can't be read.
+    Disk,
 }
 
 impl Halt {
@@ -32,6 +34,7 @@ impl Halt {
             Halt::Full => Why::Full,
             Halt::WaitState => Why::WaitState,
             Halt::WaitSaved => Why::WaitSaved,
+            Halt::Disk => Why::Disk,
         }
     }
 }

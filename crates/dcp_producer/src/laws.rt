@@ -3,7 +3,7 @@ ghost use Rattle.std.specs.Prelude.{◌≡◌, ◌≢◌, ◌<◌, ◌≤◌, �
 ghost use Rattle.dcp_producer.specs.{FirstMarkers.{MarksFirst, MeansFirst}, Frames.{take_answered}};
 ghost use Rattle.dcp_producer.specs.Having.{IsOpened, IsStreamOf, NoneOf};
 ghost use Rattle.dcp_producer.specs.Handshaking.{Asks, Gets, IsFlag, IsKnown, IsName, IsNoOpen, IsNoRequest, IsOther, Sizes};
-ghost use Rattle.dcp_producer.specs.Items.{Asking, EndsBytes, IsNext, MarksBytes, MarksSnapshots, PutsBytes, PutsDurables, PutsPlain, durable_doc, durable_row};
+ghost use Rattle.dcp_producer.specs.Items.{Asking, EndsBytes, IsNext, MarksBackfills, MarksBytes, MarksSnapshots, PutsBytes, PutsDurables, PutsPlain, durable_doc, durable_row};
 ghost use Rattle.dcp_producer.specs.Counting.{IsClients, IsCountable, IsFed, IsMember, IsNoMember, IsUnfed, OneCount};
 ghost use Rattle.dcp_producer.specs.Requesting.{AreTaken, IsForIt, IsFree, IsInactive, IsOutside, OneReply, RefusedWith, number_behind};
 ghost use Rattle.dcp_producer.specs.Producers.{PlainStream, Served};
@@ -11,6 +11,7 @@ ghost use Rattle.{dcp_producer.specs.Serving.{frame_answered, message_answered, 
 ghost use Rattle.{dcp_producer.specs.declared.desk.Named.{Named as Name}, dcp_producer.specs.declared.desk.Named.TheVariants.{Member, Nobody, Stranger}};
 ghost use Rattle.{mcbp_dcp.specs.Messages.{read_of}, mcbp_dcp.specs.declared.message.DcpFault.{DcpFault as Fault}, mcbp_dcp.specs.declared.message.DcpMsg.{DcpMsg as Message}};
 ghost use Rattle.{mcbp_dcp.specs.declared.message.DcpMsg.TheVariants.{Control, Open, SeqnoAcknowledged}, mcbp_frame.specs.declared.frame.Frame.{Frame as FrameData}};
+ghost use Rattle.vb_types.specs.declared.stream.Place.{Place as Source};
 ghost use Rattle.{mcbp_frame.specs.declared.frame.TheConstants.{RESPONSE}, vb_calls.specs.Plain.{Plain}, vb_calls.specs.Programs.{Done, Made, Told}, vb_calls.specs.States.{States}};
 ghost use Rattle.{mcbp_dcp.specs.DurableRows.{no_cas, no_times, prepare_bytes, resolution_bytes, some_value}, vb_types.specs.declared.doc.Doc.{Doc as DocData}};
 ghost use Rattle.mcbp_dcp.specs.MessageRows.{deletion_bytes, end_bytes, marker_bytes, mutation_bytes, no_four};
@@ -23,14 +24,15 @@ ghost use Rattle.{vb_calls.specs.declared.calls.VbAnswer.TheVariants.{Taken}, vb
 /// The marker of a snapshot has its start and its end, and the flag 1 for one from memory and 2 for one
 /// from disk, in the frame as in the line.
 pub fn markers_tell_their_source()
-    ensures { MarksSnapshots }
+    ensures taken { MarksSnapshots }
+    ensures read { MarksBackfills }
 {}
 
 /// Until a marker of a stream was sent, START is where its request means that its snapshot starts, and
 /// commits are sent as sets and removals where that is below the request's start. Behind a marker START
 /// is where its vBucket went on, and its changes are sent as it gave them.
 pub fn first_markers()
-    ensures begins { (id : ℕ) (f : FrameData) (ask : AskData) → MeansFirst ask (new_stream id f ask).first }
+    ensures begins { (id : ℕ) (f : FrameData) (ask : AskData) (sync : Bool) (from : Source) → MeansFirst ask (new_stream id f ask sync from).first }
     ensures sent { (name : Stream) (stream : PlainStream) (snapshot : SnapshotData) (reply : ReplyData) → reply.answer ≡ Taken snapshot
         → MarksFirst name stream snapshot (take_answered name stream (Some reply)) }
 {}

@@ -5,6 +5,8 @@
 mod acknowledgements;
 mod active_stream;
 mod answers;
+mod backfill_laws;
+mod backfilling;
 mod client_laws;
 mod connection;
 mod desk;
@@ -27,6 +29,7 @@ mod window_laws;
 mod yields;
 
 use active_stream::ActiveStream;
+pub use backfill_laws::{backfills_are_read, backfills_come_first};
 pub use client_laws::{
     clients_acknowledge_nothing, clients_resolve_nothing, frames_have_their_lines,
     headers_cut_frames,
@@ -49,8 +52,8 @@ pub use pull_laws::{
     quiet_streams_stay_quiet, streams_take_turns, windows_hold_back,
 };
 pub use row_laws::{
-    ends_come_behind_items, first_markers_in_numbers, items_are_put_in_turn, lost_streams_end,
-    turns_in_order, windows_hold_at_their_edge,
+    backfills_in_rows, ends_come_behind_items, first_markers_in_numbers, items_are_put_in_turn,
+    lost_streams_end, turns_in_order, windows_hold_at_their_edge,
 };
 pub use stream_laws::{
     closed_streams_are_silent, cursors_are_dropped, logs_are_answered, noops_are_answered,

@@ -51,4 +51,6 @@ pub enum NextFrame {
     End { reason: u32 },
     /// Nothing now; what it waits for.
     Quiet { waits: Waits },
+    /// None, as its journal can't be read; the pull ends.
+    Disk,
 }

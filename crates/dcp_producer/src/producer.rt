@@ -1,7 +1,7 @@
 //! A producer, and what it is asked.
 ghost use Rattle.std.specs.Prelude.{◌≡◌, [], IfOk, OnErr, false, true};
 ghost use Rattle.{dcp_producer.specs.Dropping.{cursor_dropped, flag_said}, dcp_producer.specs.Ending.{ended_by, end_closed}, dcp_producer.specs.Producers.{new_end, begun}, dcp_producer.specs.Pulling.{frames_put}};
-ghost use Rattle.{dcp_producer.specs.Serving.{frame_answered}, dcp_producer.specs.Giving.{given_up}, dcp_producer.specs.Wanting.{Cut, Remains, Stays}, vb_calls.specs.Programs.{Ran, Began, Call, Done}};
+ghost use Rattle.{dcp_producer.specs.Serving.{frame_answered}, dcp_producer.specs.Giving.{given_up}, dcp_producer.specs.Wanting.{Cut, Remains, Stays}, vb_calls.specs.Jobs.{BeganJob, RanJob}, vb_calls.specs.Programs.{Ran, Began, Call, Done}};
 ghost use Rattle.vb_calls.specs.declared.calls.VbCall.TheVariants.{CloseStream, DropCursor};
 
 use crate::pulls::Quiet;
@@ -11,7 +11,7 @@ use bytes::BytesMut;
 use mcbp_frame::Frame;
 use std::alloc::{AllocError, Global};
 use std::marker::Model;
-use vb_calls::{Resolved, VbAccess, VbCall};
+use vb_calls::{Journals, Resolved, VbAccess, VbCall};
 use vb_events::Event;
 use vb_types::Listed;
 
@@ -130,13 +130,18 @@ impl Producer {
     }
 
     /// Puts at most so many frames of the streams, which take turns frame by frame.
-    #[tactic(auto, using(vb_calls::proofs::Runs::runs))]
-    pub fn pull<A: VbAccess>(&mut self, vbs: &mut A, frames: u32) -> Alloc<Pulled>
-        ensures ok { IfOk result (λ pulled. Ran A.step (frames_put frames (begun self.old.plain)) vbs.old (record { end = self.new.plain; events = pulled.events; out = pulled.out.items; count = pulled.count; resolved = [] }, pulled.halt) vbs.new) }
+    #[tactic(auto, using(vb_calls::proofs::JobRuns::jobs))]
+    pub fn pull<A: VbAccess, J: Journals>(
+        &mut self,
+        vbs: &mut A,
+        disks: &mut J,
+        frames: u32,
+    ) -> Alloc<Pulled>
+        ensures ok { IfOk result (λ pulled. RanJob A.step J.asks (frames_put frames (begun self.old.plain)) vbs.old disks.old (record { end = self.new.plain; events = pulled.events; out = pulled.out.items; count = pulled.count; resolved = [] }, pulled.halt) vbs.new disks.new) }
         ensures kept { IfOk result (λ pulled. (self.old.spent ≡ false) × (self.new.spent ≡ false)) }
-        ensures err { OnErr result (Began A.step (frames_put frames (begun self.old.plain)) vbs.old vbs.new) }
+        ensures err { OnErr result (BeganJob A.step J.asks (frames_put frames (begun self.old.plain)) vbs.old disks.old vbs.new disks.new) }
         ensures spent { OnErr result (self.new.spent ≡ true) }
-        ensures over { OnErr result (self.old.spent ≡ true → vbs.new ≡ vbs.old) }
+        ensures over { OnErr result (self.old.spent ≡ true → (vbs.new ≡ vbs.old) × (disks.new ≡ disks.old)) }
         ensures still { OnErr result (self.old.spent ≡ true → self.new ≡ self.old) }
         ensures same { OnErr result (Stays self.old.plain self.new.plain) }
         ensures desk { self.new.plain.desk ≡ self.old.plain.desk }
@@ -146,7 +151,7 @@ impl Producer {
         }
         let none = Quiet::new(self.connection.alloc);
         let mut quiet = std::mem::replace(&mut self.quiet, none);
-        let halted = self.connection.pull(vbs, &mut quiet, frames);
+        let halted = self.connection.pull(vbs, disks, &mut quiet, frames);
         self.quiet = quiet;
         let count = self.connection.count;
         let Asked { events, out, .. } = self.connection.told();

@@ -2,7 +2,7 @@
 ghost use Rattle.std.specs.Prelude.{◌≡◌, ◌≤◌, length, ◌+◌, ◌<◌, ◌^◌, IsTrue, IfOk, OnOk, OnErr, Some, slice_get};
 ghost use Rattle.flow_control.specs.Windows.{is_open};
 ghost use Rattle.dcp_producer.specs.Pulling.{Counts, came_as, frame_of, frame_put, frames_put, is_quiet, none_quiet, one_frame, one_turn, pull_of, quiet_halt, stream_asked, turn_of, with_quiet};
-ghost use Rattle.{dcp_producer.specs.Frames.{IsPuttable}, dcp_producer.specs.Producers.{PlainStream}, dcp_producer.specs.Wanting.{Stays}, vb_calls.specs.Programs.{Ran, Began}};
+ghost use Rattle.{dcp_producer.specs.Frames.{IsPuttable}, dcp_producer.specs.Producers.{PlainStream}, dcp_producer.specs.Wanting.{Stays}, vb_calls.specs.Jobs.{BeganJob, RanJob}};
 ghost use Rattle.mcbp_dcp.specs.DcpFrames.{dcp_frame, IsSpelled};
 
 use crate::connection::place_of;
@@ -10,8 +10,19 @@ use crate::{Alloc, Connection, Halt, NextFrame, Waits};
 use mcbp_dcp::DcpMsg;
 use std::alloc::Global;
 use std::marker::Model;
-use vb_calls::VbAccess;
+use vb_calls::{Journals, VbAccess};
 use vb_events::Event;
+
+/// What a turn of a stream comes to in a pull.
+#[derive(Clone, Copy)]
+pub enum Turned {
+    /// A frame was put.
+    Put,
+    /// None was, and the next stream has its turn.
+    Passed,
+    /// The stream's journal can't be read, and the pull ends.
+    Unread,
+}
 
 /// The streams that put nothing when they were asked in a pull, and what they wait for. They are asked no more in that pull: nobody else calls their vBuckets
 /// meanwhile. `place` is where the next one is looked for first: they mostly stand in the order of
@@ -103,22 +114,22 @@ impl Connection {
         Ok(())
     }
 
-    /// Puts what a stream at this place has for its turn, or notes that it is quiet. Says whether a
-    /// frame was put.
-    fn put_next(&mut self, quiet: &mut Quiet, at: usize, next: NextFrame) -> Alloc<bool>
+    /// Puts what a stream at this place has for its turn, or notes that it is quiet. Says what the turn
+    /// came to.
+    fn put_next(&mut self, quiet: &mut Quiet, at: usize, next: NextFrame) -> Alloc<Turned>
         requires there { at < length self.old.end.streams }
         requires spelled { IsPuttable next }
         requires open { IsTrue (is_open self.old.end.window) }
         requires few { self.old.count + 1 < 2 ^ 64 }
-        ensures ok { (stream : PlainStream) → slice_get self.old.end.streams at ≡ Some stream → IfOk result (λ put. turn_of put (pull_of self.new quiet.new) ≡ came_as self.old quiet.old stream next) }
-        ensures counts { IfOk result (λ put. Counts put self.old self.new) }
+        ensures ok { (stream : PlainStream) → slice_get self.old.end.streams at ≡ Some stream → IfOk result (λ turned. turn_of turned (pull_of self.new quiet.new) ≡ came_as self.old quiet.old stream next) }
+        ensures counts { IfOk result (λ turned. Counts turned self.old self.new) }
         ensures same { Stays self.old.end self.new.end }
     {
         let (id, opaque, vb) = self.streams[at].names();
         match next {
             NextFrame::Put { message, line } => {
                 self.put_frame(message, opaque, vb, line)?;
-                Ok(true)
+                Ok(Turned::Put)
             }
             NextFrame::End { reason } => {
                 self.drop_stream(id);
@@ -127,61 +138,78 @@ impl Connection {
                     reason,
                 };
                 self.put_frame(DcpMsg::StreamEnd { reason }, opaque, vb, line)?;
-                Ok(true)
+                Ok(Turned::Put)
             }
             NextFrame::Quiet { waits } => {
                 quiet.add(id, waits)?;
-                Ok(false)
+                Ok(Turned::Passed)
             }
+            NextFrame::Disk => Ok(Turned::Unread),
         }
     }
 
     /// Asks the stream at this place for its next frame, and puts it, or notes that it is quiet.
-    /// Says whether a frame was put.
-    fn ask_stream<A: VbAccess>(&mut self, vbs: &mut A, quiet: &mut Quiet, at: usize) -> Alloc<bool>
+    /// Says what its turn came to.
+    fn ask_stream<A: VbAccess, J: Journals>(
+        &mut self,
+        vbs: &mut A,
+        disks: &mut J,
+        quiet: &mut Quiet,
+        at: usize,
+    ) -> Alloc<Turned>
         requires there { at < length self.old.end.streams }
         requires open { IsTrue (is_open self.old.end.window) }
         requires few { self.old.count + 1 < 2 ^ 64 }
-        ensures ok { (stream : PlainStream) → slice_get self.old.end.streams at ≡ Some stream → IfOk result (λ put. Ran A.step (stream_asked self.old quiet.old stream) vbs.old (turn_of put (pull_of self.new quiet.new)) vbs.new) }
-        ensures err { (stream : PlainStream) → slice_get self.old.end.streams at ≡ Some stream → OnErr result (Began A.step (stream_asked self.old quiet.old stream) vbs.old vbs.new) }
-        ensures counts { IfOk result (λ put. Counts put self.old self.new) }
+        ensures ok { (stream : PlainStream) → slice_get self.old.end.streams at ≡ Some stream → IfOk result (λ turned. RanJob A.step J.asks (stream_asked self.old quiet.old stream) vbs.old disks.old (turn_of turned (pull_of self.new quiet.new)) vbs.new disks.new) }
+        ensures err { (stream : PlainStream) → slice_get self.old.end.streams at ≡ Some stream → OnErr result (BeganJob A.step J.asks (stream_asked self.old quiet.old stream) vbs.old disks.old vbs.new disks.new) }
+        ensures counts { IfOk result (λ turned. Counts turned self.old self.new) }
         ensures same { Stays self.old.end self.new.end }
     {
         let (alloc, name) = (self.alloc, self.desk.stream);
-        let next = self.streams[at].next_frame(alloc, vbs, name)?;
+        let next = self.streams[at].next_frame(alloc, vbs, disks, name)?;
         self.put_next(quiet, at, next)
     }
 
-    /// Gives the stream whose turn it is its turn, unless it was quiet before. Says whether a frame
-    /// was put.
-    #[tactic(auto, using(vb_calls::proofs::Runs::runs), unfolding(crate::specs::Pulling::one_turn))]
-    fn take_turn<A: VbAccess>(&mut self, vbs: &mut A, quiet: &mut Quiet) -> Alloc<bool>
+    /// Gives the stream whose turn it is its turn, unless it was quiet before. Says what the turn
+    /// came to.
+    #[tactic(auto, using(vb_calls::proofs::JobRuns::jobs), unfolding(crate::specs::Pulling::one_turn))]
+    fn take_turn<A: VbAccess, J: Journals>(
+        &mut self,
+        vbs: &mut A,
+        disks: &mut J,
+        quiet: &mut Quiet,
+    ) -> Alloc<Turned>
         requires open { IsTrue (is_open self.old.end.window) }
         requires few { self.old.count + 1 < 2 ^ 64 }
-        ensures ok { IfOk result (λ put. Ran A.step (one_turn (pull_of self.old quiet.old)) vbs.old (turn_of put (pull_of self.new quiet.new)) vbs.new) }
-        ensures err { OnErr result (Began A.step (one_turn (pull_of self.old quiet.old)) vbs.old vbs.new) }
-        ensures counts { IfOk result (λ put. Counts put self.old self.new) }
+        ensures ok { IfOk result (λ turned. RanJob A.step J.asks (one_turn (pull_of self.old quiet.old)) vbs.old disks.old (turn_of turned (pull_of self.new quiet.new)) vbs.new disks.new) }
+        ensures err { OnErr result (BeganJob A.step J.asks (one_turn (pull_of self.old quiet.old)) vbs.old disks.old vbs.new disks.new) }
+        ensures counts { IfOk result (λ turned. Counts turned self.old self.new) }
         ensures same { Stays self.old.end self.new.end }
     {
         let Some(id) = self.ring.next() else {
-            return Ok(false);
+            return Ok(Turned::Passed);
         };
         if quiet.has(id) {
-            return Ok(false);
+            return Ok(Turned::Passed);
         }
         match place_of(&self.streams, id) {
-            Some(at) => self.ask_stream(vbs, quiet, at),
-            None => Ok(false),
+            Some(at) => self.ask_stream(vbs, disks, quiet, at),
+            None => Ok(Turned::Passed),
         }
     }
 
     /// Puts one frame through the window, of the first stream in turn that has one; or says why
     /// there is none to put.
-    #[tactic(auto, using(vb_calls::proofs::Runs::runs), unfolding(crate::specs::Pulling::one_frame))]
-    fn put_one_frame<A: VbAccess>(&mut self, vbs: &mut A, quiet: &mut Quiet) -> Alloc<Option<Halt>>
+    #[tactic(auto, using(vb_calls::proofs::JobRuns::jobs), unfolding(crate::specs::Pulling::one_frame))]
+    fn put_one_frame<A: VbAccess, J: Journals>(
+        &mut self,
+        vbs: &mut A,
+        disks: &mut J,
+        quiet: &mut Quiet,
+    ) -> Alloc<Option<Halt>>
         requires few { self.old.count + 1 < 2 ^ 64 }
-        ensures ok { IfOk result (λ halt. Ran A.step (one_frame (pull_of self.old quiet.old)) vbs.old (frame_of halt (pull_of self.new quiet.new)) vbs.new) }
-        ensures err { OnErr result (Began A.step (one_frame (pull_of self.old quiet.old)) vbs.old vbs.new) }
+        ensures ok { IfOk result (λ halt. RanJob A.step J.asks (one_frame (pull_of self.old quiet.old)) vbs.old disks.old (frame_of halt (pull_of self.new quiet.new)) vbs.new disks.new) }
+        ensures err { OnErr result (BeganJob A.step J.asks (one_frame (pull_of self.old quiet.old)) vbs.old disks.old vbs.new disks.new) }
         ensures count { IfOk result (λ halt. self.new.count ≤ self.old.count + 1) }
         ensures resolved { OnOk result (self.new.resolved ≡ self.old.resolved) }
         ensures same { Stays self.old.end self.new.end }
@@ -190,25 +218,33 @@ impl Connection {
             return Ok(Some(Halt::Full));
         }
         for turn in 0..self.streams.len() {
-            if self.take_turn(vbs, quiet)? {
-                return Ok(None);
+            match self.take_turn(vbs, disks, quiet)? {
+                Turned::Put => return Ok(None),
+                Turned::Passed => {}
+                Turned::Unread => return Ok(Some(Halt::Disk)),
             }
         }
         Ok(Some(quiet.halt()))
     }
 
     /// Puts at most so many frames of the streams, each with its line, and says why no more.
-    #[tactic(auto, using(vb_calls::proofs::Runs::runs), unfolding(crate::specs::Pulling::frames_put))]
-    pub fn pull<A: VbAccess>(&mut self, vbs: &mut A, quiet: &mut Quiet, frames: u32) -> Alloc<Halt>
+    #[tactic(auto, using(vb_calls::proofs::JobRuns::jobs), unfolding(crate::specs::Pulling::frames_put))]
+    pub fn pull<A: VbAccess, J: Journals>(
+        &mut self,
+        vbs: &mut A,
+        disks: &mut J,
+        quiet: &mut Quiet,
+        frames: u32,
+    ) -> Alloc<Halt>
         requires { self.old.count ≡ 0 }
-        ensures ok { IfOk result (λ halt. Ran A.step (frames_put frames self.old) vbs.old (self.new, halt) vbs.new) }
-        ensures err { OnErr result (Began A.step (frames_put frames self.old) vbs.old vbs.new) }
+        ensures ok { IfOk result (λ halt. RanJob A.step J.asks (frames_put frames self.old) vbs.old disks.old (self.new, halt) vbs.new disks.new) }
+        ensures err { OnErr result (BeganJob A.step J.asks (frames_put frames self.old) vbs.old disks.old vbs.new disks.new) }
         ensures resolved { OnOk result (self.new.resolved ≡ self.old.resolved) }
         ensures same { Stays self.old.end self.new.end }
     {
         quiet.begin();
         for turn in 0..frames {
-            if let Some(halt) = self.put_one_frame(vbs, quiet)? {
+            if let Some(halt) = self.put_one_frame(vbs, disks, quiet)? {
                 return Ok(halt);
             }
         }

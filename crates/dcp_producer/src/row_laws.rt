@@ -1,6 +1,6 @@
 //! Streams of a few items each, worked by hand: what pulls put of them; each law as the contract of a
 //! function that does nothing.
-ghost use Rattle.dcp_producer.specs.FirstRows.{FirstsInRows};
+ghost use Rattle.dcp_producer.specs.{BackfillRows.{BackfillsInRows}, FirstRows.{FirstsInRows}};
 ghost use Rattle.dcp_producer.specs.Rows.{EndsBehindItems, HeldAtEdge, LostStreamsEnd, PutInTurn, TurnsInOrder};
 
 /// The items of a snapshot are put in their order, each once, also of a stream that a change of role
@@ -46,4 +46,11 @@ pub fn lost_streams_end()
 #[tactic(auto, unfolding(crate::specs::Pulling::frames_put, crate::specs::Pulling::one_frame, crate::specs::Pulling::one_turn, crate::specs::Frames::next_frame))]
 pub fn first_markers_in_numbers()
     ensures { FirstsInRows }
+{}
+
+/// Streams that go on from a journal, by what it gives and what their vBuckets reply: when it is read, which
+/// markers come of it, where it gives nothing, and where it can't be read.
+#[tactic(auto, unfolding(crate::specs::Pulling::frames_put, crate::specs::Pulling::one_frame, crate::specs::Pulling::one_turn, crate::specs::Frames::next_frame, backfill::specs::Backfills::backfilled))]
+pub fn backfills_in_rows()
+    ensures { BackfillsInRows }
 {}

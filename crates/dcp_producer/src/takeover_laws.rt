@@ -6,14 +6,14 @@ ghost use Rattle.dcp_producer.specs.declared.{halt.Halt.{Halt}, next_frame.NextF
 ghost use Rattle.mcbp_dcp.specs.{DcpFrames.{dcp_frame}, DurableRows.{no_cas}, MessageRows.{answer_head, state_bytes}, declared.message.DcpMsg.TheVariants.{StateAnswer}};
 ghost use Rattle.mcbp_frame.specs.{Spelling.{spelling}, declared.frame.{Frame.{Frame as FrameData}, TheConstants.{RESPONSE}}};
 ghost use Rattle.takeover.specs.declared.give_up.GiveUp.{GiveUp as GiveData};
-ghost use Rattle.{vb_calls.specs.Programs.{Done, Made, Told}, vb_events.specs.declared.event.StreamName.{StreamName as Name}, vb_types.specs.declared.role.Role.TheVariants.{Active, Pending}};
+ghost use Rattle.{vb_calls.specs.Programs.{Done, Made, Told}, vb_told.specs.Told.{ToldJob}, vb_events.specs.declared.event.StreamName.{StreamName as Name}, vb_types.specs.declared.role.Role.TheVariants.{Active, Pending}};
 
 /// A stream that gives its vBucket up puts the state pending exactly in the first step, where its changes come
 /// from memory and its vBucket has no more for it, and active so in the fifth; its end with reason 0 comes
 /// exactly in the eighth. All of these come behind its items, and where a change of role ended it the end with
 /// reason 2 comes in place of them. In the third, the fourth and the seventh step it puts nothing.
 pub fn takeovers_in_order()
-    ensures { (name : Name) (stream left : PlainStream) (made : List Made) (next : Frame) → Told (next_frame name stream) made (next, left)
+    ensures { (name : Name) (stream left : PlainStream) (made : List Made) (next : Frame) → ToldJob (next_frame name stream) made (next, left)
         → InOrder name stream made next left }
 {}
 
@@ -55,7 +55,7 @@ pub fn answers_of_states()
 /// that a stream waits for the answer to a state; next that one waits for what is to be saved; and that there is no
 /// more, exactly where none of these is so.
 pub fn waits_in_order()
-    ensures { (frames : ℕ) (s left : Served) (made : List Made) (halted : Halt) → IsSound s.end → Told (frames_put frames s) made (left, halted)
+    ensures { (frames : ℕ) (s left : Served) (made : List Made) (halted : Halt) → IsSound s.end → ToldJob (frames_put frames s) made (left, halted)
         → WaitsInOrder frames s made left halted }
 {}
 

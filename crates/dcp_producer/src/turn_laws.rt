@@ -1,9 +1,9 @@
 //! How streams take their own snapshots, and how they end with a change of role and with their connection;
 //! each law as the contract of a function that does nothing.
 ghost use Rattle.std.specs.Prelude.{◌≡◌, ◌≢◌, ℕ, true, List, [], Some};
-ghost use Rattle.dcp_producer.specs.{Apart.{EndsNoOthers, LeavesOthers}, Serving.{frame_answered}, Ending.{AreEnding, LeavesEnding, NoCall}, Going.{FollowsSo, ReachesSo}, Having.{IsSound}, Pulling.{frames_put}, Endings.{ClosesAlive, EndsNamed}, Ends.{EndsSo, IsQuietSo}, Frames.{next_frame, place_said, placed_next}, Producers.{PlainProducer, PlainStream, Served, new_end}, Taking.{AsksFirst}};
+ghost use Rattle.dcp_producer.specs.{Apart.{EndsNoOthers, LeavesOthers}, Serving.{frame_answered}, Ending.{AreEnding, LeavesEnding, NoCall, NoRequest}, Going.{FollowsSo, ReachesSo}, Having.{IsSound}, Pulling.{frames_put}, Endings.{ClosesAlive, EndsNamed}, Ends.{EndsSo, IsQuietSo}, Frames.{next_frame, place_said, placed_next}, Producers.{PlainProducer, PlainStream, Served, new_end}, Taking.{AsksFirst}};
 ghost use Rattle.dcp_producer.specs.declared.desk.{Desk.{Desk as DeskData}, Handshake.TheVariants.{Fresh}};
-ghost use Rattle.{dcp_producer.specs.declared.next_frame.NextFrame.{NextFrame as Frame}, vb_calls.specs.Programs.{Always, AnyCall, Made, Told}};
+ghost use Rattle.{dcp_producer.specs.declared.next_frame.NextFrame.{NextFrame as Frame}, vb_calls.specs.{Jobs.{AlwaysJob}, Programs.{Always, AnyCall, AnyReply, Made}}, vb_told.specs.Told.{ToldJob}};
 ghost use Rattle.vb_calls.specs.declared.calls.{Resolved.{Resolved}, VbAnswer.TheVariants.{Placed}, VbCall.TheVariants.{Take}};
 ghost use Rattle.mcbp_frame.specs.declared.frame.{Frame.{Frame as FrameData}, TheConstants.{RESPONSE}};
 ghost use Rattle.vb_events.specs.declared.event.StreamName.{StreamName as Name};
@@ -22,7 +22,7 @@ pub fn streams_take_their_own()
 /// exactly where, behind its items, a change of role ended it, or else its vBucket lost it; and for no other
 /// reason. No marker comes behind a snapshot that reached the end.
 pub fn streams_end()
-    ensures { (name : Name) (stream left : PlainStream) (made : List Made) (next : Frame) → Told (next_frame name stream) made (next, left) → EndsSo stream made next }
+    ensures { (name : Name) (stream left : PlainStream) (made : List Made) (next : Frame) → ToldJob (next_frame name stream) made (next, left) → EndsSo stream made next }
 {}
 
 /// A stream is quiet exactly where its vBucket is asked behind its items and says that its changes are to be
@@ -30,14 +30,14 @@ pub fn streams_end()
 /// yet; or where it gives its vBucket up, is in the third, the fourth or the seventh step, and waits for an
 /// answer.
 pub fn quiet_exactly()
-    ensures { (name : Name) (stream left : PlainStream) (made : List Made) (next : Frame) → Told (next_frame name stream) made (next, left) → IsQuietSo stream made next }
+    ensures { (name : Name) (stream left : PlainStream) (made : List Made) (next : Frame) → ToldJob (next_frame name stream) made (next, left) → IsQuietSo stream made next }
 {}
 
-/// A stream that a change of role ended asks its vBucket for nothing: what it still puts was taken before,
-/// or is its end. So a connection of which all streams are ended asks nobody, and they stay so.
+/// A stream that a change of role ended asks its vBucket for nothing, nor its journal, also where a backfill is
+/// not read: what it still puts was taken before, or is its end. So a connection of which all streams are ended asks nobody, and they stay so.
 pub fn ended_streams_ask_nothing()
-    ensures one { (name : Name) (stream left : PlainStream) (made : List Made) (next : Frame) → stream.ended ≡ true → Told (next_frame name stream) made (next, left) → made ≡ [] }
-    ensures all { (frames : ℕ) (s : Served) → IsSound s.end → AreEnding s.end.streams → Always NoCall LeavesEnding (frames_put frames s) }
+    ensures one { (name : Name) (stream left : PlainStream) (made : List Made) (next : Frame) → stream.ended ≡ true → ToldJob (next_frame name stream) made (next, left) → made ≡ [] }
+    ensures all { (frames : ℕ) (s : Served) → IsSound s.end → AreEnding s.end.streams → AlwaysJob AnyReply NoCall NoRequest LeavesEnding (frames_put frames s) }
 {}
 
 /// Behind an item, which needs no call, a stream is one item further. Behind the last one, where no end is
@@ -45,13 +45,13 @@ pub fn ended_streams_ask_nothing()
 /// was given then, whose items begin with the first. Behind a state all but how
 /// far the stream gives its vBucket up is as it was. One that is quiet or over is as it was.
 pub fn snapshots_follow()
-    ensures { (name : Name) (stream left : PlainStream) (made : List Made) (next : Frame) → Told (next_frame name stream) made (next, left) → FollowsSo stream made next left }
+    ensures { (name : Name) (stream left : PlainStream) (made : List Made) (next : Frame) → ToldJob (next_frame name stream) made (next, left) → FollowsSo stream made next left }
 {}
 
 /// The consumer of a stream may have all up to an item that is put, if that is above what it might have
 /// before; a marker, an end and a turn in which the stream is quiet leave it.
 pub fn streams_reach_what_was_put()
-    ensures { (name : Name) (stream left : PlainStream) (made : List Made) (next : Frame) → Told (next_frame name stream) made (next, left) → ReachesSo stream next left }
+    ensures { (name : Name) (stream left : PlainStream) (made : List Made) (next : Frame) → ToldJob (next_frame name stream) made (next, left) → ReachesSo stream next left }
 {}
 
 /// An answer to a request of one vBucket leaves the streams of all others as they are, in their order, and so

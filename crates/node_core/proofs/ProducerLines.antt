@@ -1,5 +1,5 @@
 -- which lines a producer tells as it answers frames, and as it puts those of its streams, whatever vBuckets reply
-use Rattle.std.proofs.Common.{ℕ, zero, suc, Bool, true, false, List, [], ◌∷◌, ◌++◌, length, map, Option, Some, None, Result, Ok, Err}
+use Rattle.std.proofs.Common.{ℕ, Bool, true, false, List, [], ◌∷◌, ◌++◌, length, map, Option, Some, None, Result, Ok, Err}
 use Rattle.std.specs.Prelude.{◌==◌, ◌||◌, nat_lt, if◌then◌else◌, codes, slice_get}
 use Rattle.std.specs.List.{All, list_any}
 use Rattle.std.specs.Str.{bytes_eq}
@@ -11,9 +11,12 @@ use Rattle.mcbp_dcp.specs.declared.message.DcpMsg.{DcpMsg}
 use Rattle.mcbp_dcp.specs.declared.message.DcpMsg.TheVariants as msg
 use Rattle.mcbp_frame.specs.declared.frame.Frame.{Frame}
 use Rattle.mcbp_frame.specs.declared.frame.TheConstants.{RESPONSE}
-use Rattle.dcp_producer.specs.Frames.{Next, STATE_CHANGED, alive_next, close_sent, next_by, next_frame, none_next, over, place_requested, place_said, placed_next, reaches_end, role_of, state_next, step_next, take_answered, taken_next}
+use Rattle.backfill.specs.Backfills.{backfilled}
+use Rattle.backfill.specs.declared.backfilled.Backfilled.{Backfilled}
+use Rattle.backfill.specs.declared.backfilled.Backfilled.TheVariants as filled
+use Rattle.dcp_producer.specs.Frames.{Next, STATE_CHANGED, alive_next, backfill_next, changes_next, close_sent, go_on_by, next_by, next_frame, none_next, over, place_requested, place_said, placed_next, reaches_end, read_comes, read_job, role_of, state_next, step_next, take_answered, take_requested, taken_next, with_unread}
 use Rattle.dcp_producer.specs.Producers.{PlainProducer, PlainStream, Served, begun, is_open, member_of, stream_at}
-use Rattle.dcp_producer.specs.Pulling.{Pulling, QuietOnes, came, frames_put, is_quiet, none_quiet, one_frame, one_turn, past_turn, pull_of, pulled, stream_asked, stream_in_turn, turn_had, turns_came}
+use Rattle.dcp_producer.specs.Pulling.{Halting, Pulling, QuietOnes, came, frames_put, is_quiet, none_quiet, one_frame, one_turn, past_turn, pull_of, pulled, stream_asked, stream_in_turn, turn_had, turns_came}
 use Rattle.dcp_producer.specs.Serving.{acknowledged, close_requested, closed_sent, controlled, controlled_as, count_answered, count_requested, counted_by, fed_stream, frame_answered, heard, is_taken, log_answered, log_given, log_requested, log_sent, message_answered, open_refusal, opened_unless, opening_requested, opens, read_answered, refusal_requested, response_heard, row_answered, sized, sized_as, status_sent, stream_answered, stream_closed, stream_request, weighed}
 use Rattle.takeover.specs.GivingUp.{done}
 use Rattle.takeover.specs.declared.give_up.GiveStep.{GiveStep}
@@ -22,14 +25,17 @@ use Rattle.takeover.specs.declared.give_up.GiveUp.{GiveUp}
 use Rattle.dcp_producer.specs.declared.desk.Handshake.{Handshake}
 use Rattle.dcp_producer.specs.declared.halt.Halt.{Halt}
 use Rattle.dcp_producer.specs.declared.halt.Halt.TheVariants as halt
+use Rattle.dcp_producer.specs.declared.next_frame.NextFrame.{NextFrame}
 use Rattle.dcp_producer.specs.declared.next_frame.NextFrame.TheVariants as next
-use Rattle.vb_calls.specs.Programs.{Prog, Done, Call, bind, Turn, More, Stop, go_on, repeated, Ran, AnyReply, AnyCall, Always}
+use Rattle.vb_calls.specs.Jobs.{Job, Ended, bind_job, repeated_job, AlwaysJob, IsRead, RanJob}
+use Rattle.vb_calls.specs.Programs.{Prog, Done, Call, Turn, More, Stop, Ran, AnyReply, AnyCall, Always}
+use Rattle.vb_calls.specs.Shelves.{Ask, Got}
 use Rattle.vb_calls.specs.declared.calls.VbAnswer.{VbAnswer}
 use Rattle.vb_calls.specs.declared.calls.VbAnswer.TheVariants as answer
 use Rattle.vb_calls.specs.declared.calls.VbCall.{VbCall}
 use Rattle.vb_calls.specs.declared.calls.VbCall.TheVariants as call
 use Rattle.vb_calls.specs.declared.calls.VbReply.{VbReply}
-use Rattle.vb_calls.proofs.Conduct.{always_bind}
+use Rattle.vb_calls.proofs.JobConduct.{always_bind_job, always_repeated_job, always_so_job}
 use Rattle.vb_events.specs.declared.event.Event.{Event}
 use Rattle.vb_events.specs.declared.event.Event.TheVariants as event
 use Rattle.vb_events.specs.declared.event.StreamName.{StreamName}
@@ -43,7 +49,7 @@ use Rattle.vb_types.specs.declared.stream.Place.{Place}
 use Rattle.vb_types.specs.declared.stream.Place.TheVariants as place
 use Rattle.vb_types.specs.declared.stream.StreamAsk.{StreamAsk}
 use Rattle.node_core.specs.Clients.{IsProducers}
-use Rattle.node_core.proofs.Turning.{ran_always}
+use Rattle.node_core.proofs.Turning.{ran_always, ran_always_job}
 
 -- all lines so far are such
 abbrev Tells : Served → Type 0
@@ -181,8 +187,17 @@ abbrev IsLine : Next → Type 0
 IsLine (next.Put m line, left) = IsProducers line
 IsLine other = Unit {0}
 
-abbrev Nexts : Prog Next → Type 0
-Nexts prog = Always AnyCall IsLine prog
+-- a job reads journals alone, and comes to such an answer
+abbrev Reads : {A : Type 0} → (A → Type 0) → Job A → Type 0
+Reads answers job = AlwaysJob AnyReply AnyCall IsRead answers job
+
+abbrev Nexts : Job Next → Type 0
+Nexts job = Reads IsLine job
+
+-- what is read of a backfill comes to such a frame, or to none
+abbrev MayLine : Option NextFrame × PlainStream → Type 0
+MayLine (Some next, left) = IsLine (next, left)
+MayLine (None, left) = Unit {0}
 
 module _ (name : StreamName) where
   state_line : (stream : PlainStream) (g : GiveUp) (o : Option Role) → IsLine (state_next name stream g o)
@@ -202,44 +217,70 @@ module _ (name : StreamName) where
   take_line stream None = tt
   take_line stream (Some reply) = taken_line stream reply.answer
 
+  taken_lines : (stream : PlainStream) → Nexts (take_requested name stream)
+  taken_lines stream = (tt, λ reply any. take_line stream reply)
+
+  -- a backfill
+  comes_line : (stream : PlainStream) (came : Backfilled) → MayLine (read_comes name stream came)
+  comes_line stream (filled.Snapshot snapshot) = tt
+  comes_line stream filled.Nothing = tt
+  comes_line stream filled.Disk = tt
+
+  backfill_lines : (on : PlainStream → Job Next) (end : ℕ) (stream : PlainStream) → ((left : PlainStream) → Nexts (on left)) → Nexts (backfill_next name on end stream)
+  backfill_lines on end stream goes =
+      always_bind_job AnyReply AnyCall IsRead MayLine IsLine (read_job name end stream) (go_on_by on) (tt, λ reading. comes_line stream (backfilled stream.place end stream.sync reading)) by
+    where
+      by : (came : Option NextFrame × PlainStream) → MayLine came → Nexts (go_on_by on came)
+      by (Some next, left) is = is
+      by (None, left) is = goes left
+
   placed_line : (stream : PlainStream) (o : Option Place) → Nexts (placed_next name stream o)
-  placed_line stream (Some place.Memory) = (tt, λ reply any. take_line stream reply)
+  placed_line stream (Some place.Memory) = taken_lines stream
+  placed_line stream (Some (place.Backfill end)) = backfill_lines (take_requested name) end (with_unread end stream) taken_lines
   placed_line stream (Some place.WaitSaved) = tt
   placed_line stream None = tt
 
-  either_line : (b : Bool) (x y : Prog Next) → Nexts x → Nexts y → Nexts (if b then x else y)
+  either_line : (b : Bool) (x y : Job Next) → Nexts x → Nexts y → Nexts (if b then x else y)
   either_line true x y p q = p
   either_line false x y p q = q
 
   requested_line : (stream : PlainStream) → Nexts (place_requested name stream)
   requested_line stream = (tt, λ reply any. placed_line stream (place_said reply))
 
+  changes_line : (stream : PlainStream) (o : Option ℕ) → Nexts (changes_next name stream o)
+  changes_line stream None = requested_line stream
+  changes_line stream (Some end) = backfill_lines (place_requested name) end stream requested_line
+
   step_line : (stream : PlainStream) (g : GiveUp) (at : GiveStep) → Nexts (step_next name stream g at)
-  step_line stream g gives.SendAll = requested_line stream
+  step_line stream g gives.SendAll = changes_line stream stream.unread
   step_line stream g gives.SendPending = tt
   step_line stream g gives.AwaitPending = tt
   step_line stream g gives.Yield = tt
-  step_line stream g gives.SendRest = requested_line stream
+  step_line stream g gives.SendRest = changes_line stream stream.unread
   step_line stream g gives.SendActive = tt
   step_line stream g gives.AwaitActive = tt
   step_line stream g gives.End = (tt, λ reply any. tt)
 
   alive_line : (stream : PlainStream) (o : Option GiveUp) → Nexts (alive_next name stream o)
-  alive_line stream None = either_line (reaches_end stream.until stream.marked) (close_sent stream) (place_requested name stream) (tt, λ reply any. tt) (requested_line stream)
+  alive_line stream None = either_line (reaches_end stream.until stream.marked) (close_sent stream) (changes_next name stream stream.unread) (tt, λ reply any. tt) (changes_line stream stream.unread)
   alive_line stream (Some g) = step_line stream g g.step
 
   next_by_line : (stream : PlainStream) (o : Option Change) → Nexts (next_by name stream o)
   next_by_line stream (Some c) = tt
-  next_by_line stream None = either_line stream.ended (Done (over STATE_CHANGED stream)) (alive_next name stream stream.gives) tt (alive_line stream stream.gives)
+  next_by_line stream None = either_line stream.ended (Ended (over STATE_CHANGED stream)) (alive_next name stream stream.gives) tt (alive_line stream stream.gives)
 
   next_line : (stream : PlainStream) → Nexts (next_frame name stream)
   unfolding next_frame
   next_line stream = next_by_line stream (slice_get stream.items stream.next)
 
+-- a stream's next frame is got by reading alone
+pub next_reads : (name : StreamName) (stream : PlainStream) → AlwaysJob AnyReply AnyCall IsRead (λ next. Unit {0}) (next_frame name stream)
+next_reads name stream = always_so_job AnyReply AnyCall IsRead IsLine (λ next. Unit {0}) (next_frame name stream) (λ next is. tt) (next_line name stream)
+
 -- what a turn came to
-abbrev Turned : Turn Pulling Pulling → Type 0
+abbrev Turned : Turn Pulling Halting → Type 0
 Turned (More p) = Tells p.served
-Turned (Stop p) = Tells p.served
+Turned (Stop (p, halted)) = Tells p.served
 
 one_more : (s : Served) (line : Event) → IsProducers line → Tells s → All IsProducers (s.events ++ line ∷ [])
 one_more s line is c = All-append IsProducers s.events (line ∷ []) c (one_told line is)
@@ -248,75 +289,71 @@ came_tells : (s : Served) (q : QuietOnes) (x : Next) → Tells s → IsLine x �
 came_tells s q (next.Put m line, left) c is = one_more s line is c
 came_tells s q (next.End reason, left) c is = one_more s _ tt c
 came_tells s q (next.Quiet waits, left) c is = c
+came_tells s q (next.Disk, left) c is = c
 
-asked_tells : (s : Served) (q : QuietOnes) (stream : PlainStream) → Tells s → Always AnyCall Turned (stream_asked s q stream)
-asked_tells s q stream c = always_bind AnyReply AnyCall IsLine Turned (next_frame s.end.desk.stream stream) (λ x. Done (came s q x)) (next_line s.end.desk.stream stream) (λ x is. came_tells s q x c is)
+asked_tells : (s : Served) (q : QuietOnes) (stream : PlainStream) → Tells s → Reads Turned (stream_asked s q stream)
+asked_tells s q stream c = always_bind_job AnyReply AnyCall IsRead IsLine Turned (next_frame s.end.desk.stream stream) (λ x. Ended (came s q x)) (next_line s.end.desk.stream stream) (λ x is. came_tells s q x c is)
 
-had_if : (s : Served) (q : QuietOnes) (stream : PlainStream) (b : Bool) → Tells s → Always AnyCall Turned (if b then Done (More (pull_of s q)) else stream_asked s q stream)
+had_if : (s : Served) (q : QuietOnes) (stream : PlainStream) (b : Bool) → Tells s → Reads Turned (if b then Ended (More (pull_of s q)) else stream_asked s q stream)
 had_if s q stream true c = c
 had_if s q stream false c = asked_tells s q stream c
 
-had_tells : (s : Served) (q : QuietOnes) (o : Option PlainStream) → Tells s → Always AnyCall Turned (turn_had s q o)
+had_tells : (s : Served) (q : QuietOnes) (o : Option PlainStream) → Tells s → Reads Turned (turn_had s q o)
 had_tells s q None c = c
 had_tells s q (Some stream) c = had_if s q stream (is_quiet stream.id q) c
 
-turn_tells : (p : Pulling) → Tells p.served → Always AnyCall Turned (one_turn p)
+turn_tells : (p : Pulling) → Tells p.served → Reads Turned (one_turn p)
 unfolding one_turn
 turn_tells p c = had_tells (past_turn p.served) p.quiet (stream_in_turn p.served.end) c
 
-turn_goes : (t : Turn Pulling Pulling) → Turned t → Always AnyCall Turned (go_on one_turn t)
-turn_goes (More p) c = turn_tells p c
-turn_goes (Stop p) c = c
-
-turns_tell : (k : ℕ) (p : Pulling) → Tells p.served → Always AnyCall Turned (repeated k one_turn p)
-turns_tell zero p c = c
-turns_tell (suc k) p c = always_bind AnyReply AnyCall Turned Turned (repeated k one_turn p) (go_on one_turn) (turns_tell k p c) turn_goes
+turns_tell : (k : ℕ) (p : Pulling) → Tells p.served → Reads Turned (repeated_job k one_turn p)
+turns_tell k p c = always_repeated_job AnyReply AnyCall IsRead Turned one_turn turn_tells k p c
 
 -- what a frame came to
 abbrev Framed : Turn Pulling (Served × Halt) → Type 0
 Framed (More p) = Tells p.served
 Framed (Stop stopped) = Tells stopped.0
 
-turns_framed : (t : Turn Pulling Pulling) → Turned t → Framed (turns_came t)
-turns_framed (Stop p) c = c
+turns_framed : (t : Turn Pulling Halting) → Turned t → Framed (turns_came t)
+turns_framed (Stop (p, None)) c = c
+turns_framed (Stop (p, Some halted)) c = c
 turns_framed (More p) c = c
 
 framed_if : (p : Pulling) (b : Bool) → Tells p.served
-    → Always AnyCall Framed (if b then bind (repeated (length p.served.end.streams) one_turn p) (λ turns. Done (turns_came turns)) else Done (Stop (p.served, halt.Full)))
-framed_if p true c = always_bind AnyReply AnyCall Turned Framed (repeated (length p.served.end.streams) one_turn p) (λ turns. Done (turns_came turns)) (turns_tell (length p.served.end.streams) p c) turns_framed
+    → Reads Framed (if b then bind_job (repeated_job (length p.served.end.streams) one_turn p) (λ turns. Ended (turns_came turns)) else Ended (Stop (p.served, halt.Full)))
+framed_if p true c =
+    always_bind_job AnyReply AnyCall IsRead Turned Framed (repeated_job (length p.served.end.streams) one_turn p) (λ turns. Ended (turns_came turns)) (turns_tell (length p.served.end.streams) p c) turns_framed
 framed_if p false c = c
 
 -- a connection's window lets a frame through
 abbrev lets_through : PlainProducer → Bool
 lets_through end = end.window.size == 0 || nat_lt end.window.outstanding end.window.size
 
-framed_tells : (p : Pulling) → Tells p.served → Always AnyCall Framed (one_frame p)
+framed_tells : (p : Pulling) → Tells p.served → Reads Framed (one_frame p)
 unfolding one_frame
 framed_tells p c = framed_if p (lets_through p.served.end) c
-
-frame_goes : (t : Turn Pulling (Served × Halt)) → Framed t → Always AnyCall Framed (go_on one_frame t)
-frame_goes (More p) c = framed_tells p c
-frame_goes (Stop stopped) c = c
-
-frames_tell : (k : ℕ) (p : Pulling) → Tells p.served → Always AnyCall Framed (repeated k one_frame p)
-frames_tell zero p c = c
-frames_tell (suc k) p c = always_bind AnyReply AnyCall Framed Framed (repeated k one_frame p) (go_on one_frame) (frames_tell k p c) frame_goes
 
 abbrev Put : Served × Halt → Type 0
 Put put = Tells put.0
 
-put_tells : (t : Turn Pulling (Served × Halt)) → Framed t → Always AnyCall Put (pulled t)
+put_tells : (t : Turn Pulling (Served × Halt)) → Framed t → Reads Put (pulled t)
 put_tells (More p) c = c
 put_tells (Stop stopped) c = c
 
-pull_tells : (k : ℕ) (s : Served) → Tells s → Always AnyCall Put (frames_put k s)
+-- a pull reads journals alone, and tells such lines
+pull_tells : (k : ℕ) (s : Served) → Tells s → Reads Put (frames_put k s)
 unfolding frames_put
-pull_tells k s c = always_bind AnyReply AnyCall Framed Put (repeated k one_frame (pull_of s none_quiet)) pulled (frames_tell k (pull_of s none_quiet) c) put_tells
-
--- ---- in code
+pull_tells k s c =
+    always_bind_job AnyReply AnyCall IsRead Framed Put (repeated_job k one_frame (pull_of s none_quiet)) pulled (always_repeated_job AnyReply AnyCall IsRead Framed one_frame framed_tells k (pull_of s none_quiet) c) put_tells
 
 none_told : (end : PlainProducer) → Tells (begun end)
 none_told end = All-nil IsProducers
+
+-- so does one that begins
+pub pull_reads : (k : ℕ) (end : PlainProducer) → AlwaysJob AnyReply AnyCall IsRead (λ put. All IsProducers put.0.events) (frames_put k (begun end))
+pull_reads k end = pull_tells k (begun end) (none_told end)
+
+-- ---- in code
 
 module _ {W : Type 0} (step : W → ℕ → VbCall → Option VbReply → W → Type 0) where
   -- what was told of a frame that was answered
@@ -324,5 +361,6 @@ module _ {W : Type 0} (step : W → ℕ → VbCall → Option VbReply → W → 
   answers_told f end old s new ran = ran_always step Tells (frame_answered f (begun end)) old s new (frame_tells f (begun end) (none_told end)) ran
 
   -- what was told of frames that were put
-  pub frames_told : (k : ℕ) (end : PlainProducer) (old : W) (put : Served × Halt) (new : W) → Ran step (frames_put k (begun end)) old put new → All IsProducers put.0.events
-  frames_told k end old put new ran = ran_always step Put (frames_put k (begun end)) old put new (pull_tells k (begun end) (none_told end)) ran
+  pub frames_told : {J : Type 0} (asks : J → ℕ → (ask : Ask) → Got ask → J → Type 0) (k : ℕ) (end : PlainProducer) (old : W) (kept : J) (put : Served × Halt) (new : W) (left : J)
+      → RanJob step asks (frames_put k (begun end)) old kept put new left → All IsProducers put.0.events
+  frames_told asks k end old kept put new left ran = ran_always_job step asks IsRead Put (frames_put k (begun end)) old kept put new left (pull_reads k end) ran

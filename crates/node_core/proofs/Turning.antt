@@ -3,6 +3,9 @@ use Rattle.std.proofs.Common.{◌≡◌, ◌<◌, ◌≤◌, ℕ, zero, suc, ◌
 use Rattle.std.proofs.lemmas.Bool.{cases_lt}
 use Rattle.vb_calls.specs.declared.calls.VbCall.{VbCall}
 use Rattle.vb_calls.specs.declared.calls.VbReply.{VbReply}
+use Rattle.vb_calls.specs.Jobs as job
+use Rattle.vb_calls.specs.Jobs.{Job, AlwaysJob, RanJob}
+use Rattle.vb_calls.specs.Shelves.{Ask, Got}
 use Rattle.vb_calls.specs.Programs.{Prog, Done, Call, bind, Turn, More, Stop, go_on, repeated, Ran, Began, AnyReply, AnyCall, Always}
 use Rattle.vb_calls.proofs.Binds.{bind_done, bind_assoc, bind_same}
 use Rattle.vb_calls.proofs.Conduct.{always_so}
@@ -18,6 +21,13 @@ pub ran_always : {W A : Type 0} (step : W → ℕ → VbCall → Option VbReply 
     → Always AnyCall answers prog → Ran step prog old a new → answers a
 ran_always step answers (Done x) old a new always ran = subst answers (sym ran.0) always
 ran_always step answers (Call v call next) old a new always ran = ran_always step answers (next ran.0) ran.1 a new (always.1 ran.0 tt) ran.3
+
+-- the same of a job
+pub ran_always_job : {W J A : Type 0} (step : W → ℕ → VbCall → Option VbReply → W → Type 0) (asks : J → ℕ → (ask : Ask) → Got ask → J → Type 0) (requests : ℕ → Ask → Type 0) (answers : A → Type 0) (j : Job A) (old : W) (kept : J) (a : A) (new : W) (left : J)
+    → AlwaysJob AnyReply AnyCall requests answers j → RanJob step asks j old kept a new left → answers a
+ran_always_job step asks requests answers (job.Ended x) old kept a new left always ran = subst answers (sym ran.0) always
+ran_always_job step asks requests answers (job.Call v call next) old kept a new left always ran = ran_always_job step asks requests answers (next ran.0) ran.1 kept a new left (always.1 ran.0 tt) ran.3
+ran_always_job step asks requests answers (job.Request v ask next) old kept a new left always ran = ran_always_job step asks requests answers (next ran.0) old ran.1 a new left (always.1 ran.0) ran.3
 
 -- one turn, and then the others
 first_turn : {A R : Type 0} (f : A → Prog (Turn A R)) (n : ℕ) (a : A) → repeated (suc n) f a ≡ bind (f a) (go_on (repeated n f))

@@ -37,7 +37,7 @@ pub record RefusesNobody (W J : Type 0) (step : W → ℕ → VbCall → Option 
   pub bytes : (clock key : ℕ) (piece : List ℕ) (old : Node W J) (out : NodeOut) (new : Node W J) → FedAt step clock key piece None old out new → SaysAlone (line.No cause.LinkClosed) out × (new ≡ old)
   pub outcomes : (clock key : ℕ) (outcome : Resolved) (old : Node W J) (out : NodeOut) (new : Node W J) → PostedAt step clock key outcome None old out new → SaysAlone (line.No cause.LinkClosed) out × (new ≡ old)
   pub frames : (key : ℕ) (f : Frame) (old : Node W J) (out : NodeOut) (new : Node W J) → AnsweredAt step key f None old out new → SaysAlone (line.No cause.LinkClosed) out × (new ≡ old)
-  pub pulls : (frames key : ℕ) (old : Node W J) (out : NodeOut) (new : Node W J) → PulledAt step frames key None old out new → SaysAlone (line.No cause.LinkClosed) out × (new ≡ old)
+  pub pulls : (frames key : ℕ) (old : Node W J) (out : NodeOut) (new : Node W J) → PulledAt step asks frames key None old out new → SaysAlone (line.No cause.LinkClosed) out × (new ≡ old)
   pub gives : (frames key : ℕ) (old : Node W J) (out : NodeOut) (new : Node W J) → GaveUpAt step frames key None old out new → SaysAlone (line.No cause.LinkClosed) out × (new ≡ old)
   pub drops : (v : ℕ) (old : Node W J) (out : NodeOut) (new : Node W J) → DroppedAt step v None old out new → SaysAlone (line.No cause.LinkClosed) out × (new ≡ old)
   pub shuts : (key : ℕ) (old : Node W J) (out : NodeOut) (new : Node W J) → ShutAt step key None old out new → SaysAlone (line.No cause.LinkClosed) out × (new ≡ old)

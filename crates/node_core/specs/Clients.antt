@@ -11,6 +11,7 @@ use Rattle.dcp_producer.specs.Producers.{PlainProducer, Served as Answered, begu
 use Rattle.dcp_producer.specs.Pulling.{frames_put, why_of}
 use Rattle.dcp_producer.specs.Serving.{frame_answered}
 use Rattle.dcp_producer.specs.declared.halt.Halt.{Halt}
+use Rattle.vb_calls.specs.Jobs.{Job, Ended, bind_job}
 use Rattle.vb_calls.specs.Programs.{Prog, Done, bind, Turn, More, Stop, repeated}
 use Rattle.vb_calls.specs.declared.calls.Resolved.{Resolved}
 use Rattle.vb_events.specs.declared.event.Answer.{Answer}
@@ -136,8 +137,8 @@ abbrev pub client_pull : PlainSession → Answered × Halt → ClientPulled
 client_pull session (a, halt) = record { client = record { session = session; producer = a.end }; events = delivered session.who a; answer = Pulled a.count (why_of halt) }
 
 -- at most so many frames of a client's streams
-abbrev pub client_pulled : ℕ → PlainClient → Prog ClientPulled
-client_pulled frames client = bind (frames_put frames (begun client.producer)) (λ put. Done (client_pull client.session put))
+abbrev pub client_pulled : ℕ → PlainClient → Job ClientPulled
+client_pulled frames client = bind_job (frames_put frames (begun client.producer)) (λ put. Ended (client_pull client.session put))
 
 -- the connection, where a change of role at the vBucket v ended the streams of these numbers
 abbrev pub client_ended : ℕ → List ℕ → PlainClient → PlainClient

@@ -25,7 +25,7 @@ use Rattle.node_core.specs.Peers.{PlainPeer, new_peer}
 
 -- a stream of this number of a vBucket, all of which is put; it gives its vBucket up, or not
 abbrev pub stream_row : ℕ → ℕ → Bool → Option GiveUp → PlainStream
-stream_row id v ended gives = record { id = id; vb = v; opaque = 4; until = 100; first = record { start = 0; as_sets = false }; items = []; next = 0; marked = None; reached = 0; ended = ended; gives = gives }
+stream_row id v ended gives = record { id = id; vb = v; opaque = 4; until = 100; first = record { start = 0; as_sets = false }; sync = true; place = 0; unread = None; items = []; next = 0; marked = None; reached = 0; ended = ended; gives = gives }
 
 -- in the step in which it is given up, and behind it
 abbrev pub to_yield : Option GiveUp

@@ -189,30 +189,6 @@ module _ {W : Type 0} (step : W → ℕ → VbCall → Option VbReply → W → 
   ConnUnanswered f (conn.Peer kept) old new = (kept.spent ≡ true → new ≡ old) × Began step (peer_answered f kept.plain) old new
   ConnUnanswered f (conn.Client kept) old new = ⊥
 
-  -- a peer's connection was asked for frames of its streams
-  abbrev pub PeerPulled : ℕ → KeptPeer → W → NodeOut → KeptPeer → W → Type 0
-  PeerPulled frames kept old out left new =
-      (kept.spent ≡ false) × (left.spent ≡ false)
-      × ((told : PullResult) × Ran step (peer_pulled frames kept.plain) old told new × (out ≡ pull_out told) × (left.plain ≡ told.peer))
-
-  -- a client's connection was asked for frames of its streams
-  abbrev pub ClientWasPulled : ℕ → KeptClient → W → NodeOut → KeptClient → W → Type 0
-  ClientWasPulled frames kept old out left new =
-      (kept.spent ≡ false) × (left.spent ≡ false)
-      × ((told : ClientPulled) × Ran step (client_pulled frames kept.plain) old told new × (out ≡ client_pull_out told) × (left.plain ≡ told.client))
-
-  -- a connection was asked for frames of its streams
-  abbrev pub ConnPulled : ℕ → Conn → W → NodeOut → Conn → W → Type 0
-  ConnPulled frames (conn.Client kept) old out (conn.Client left) new = ClientWasPulled frames kept old out left new
-  ConnPulled frames (conn.Client kept) old out (conn.Peer left) new = ⊥
-  ConnPulled frames (conn.Peer kept) old out (conn.Peer left) new = PeerPulled frames kept old out left new
-  ConnPulled frames (conn.Peer kept) old out (conn.Client left) new = ⊥
-
-  -- memory was short while a connection was asked for frames
-  abbrev pub ConnHalted : ℕ → Conn → W → W → Type 0
-  ConnHalted frames (conn.Client kept) old new = (kept.spent ≡ true → new ≡ old) × Began step (client_pulled frames kept.plain) old new
-  ConnHalted frames (conn.Peer kept) old new = (kept.spent ≡ true → new ≡ old) × Began step (peer_pulled frames kept.plain) old new
-
   -- a connection was let go: its streams are closed at their vBuckets
   abbrev pub ConnShut : Conn → W → W → Type 0
   ConnShut (conn.Client kept) old new = Ran step (end_closed kept.plain.producer) old tt new
@@ -288,29 +264,6 @@ module _ {W J : Type 0} (step : W → ℕ → VbCall → Option VbReply → W �
     pub conns : Updates old.conns new.conns key (Some left)
     pub rest : new ≡ record old { vbs = new.vbs; conns = new.conns }
 
-  -- the connection of a key was asked for frames
-  pub record Pulled (frames key : ℕ) (found : Conn) (old : Node W J) (out : NodeOut) (new : Node W J) : Type 0 where
-    pub left : Conn
-    pub pulled : ConnPulled step frames found old.vbs out left new.vbs
-    pub conns : Updates old.conns new.conns key (Some left)
-    pub rest : new ≡ record old { vbs = new.vbs; conns = new.conns }
-
-  -- frames of the connection of a key; where there is none, that is refused
-  abbrev pub PulledAt : ℕ → ℕ → Option Conn → Node W J → NodeOut → Node W J → Type 0
-  PulledAt frames key None old out new = (out ≡ refused_out cause.LinkClosed) × (new ≡ old)
-  PulledAt frames key (Some found) old out new = Pulled frames key found old out new
-
-  -- memory was short while the connection of a key was asked for frames
-  pub record Halted (frames key : ℕ) (old new : Node W J) : Type 0 where
-    pub found : Conn
-    pub left : Conn
-    pub had : get old.conns key ≡ Some found
-    pub halted : ConnHalted step frames found old.vbs new.vbs
-    pub spent : is_spent left ≡ true
-    pub stays : LeftOf found left
-    pub conns : Updates old.conns new.conns key (Some left)
-    pub rest : new ≡ record old { vbs = new.vbs; conns = new.conns }
-
   -- the connection of a key was let go, spent or not
   pub record Shut (key : ℕ) (found : Conn) (old : Node W J) (out : NodeOut) (new : Node W J) : Type 0 where
     pub closed : ConnShut step found old.vbs new.vbs
@@ -377,6 +330,53 @@ module _ {W J : Type 0} (step : W → ℕ → VbCall → Option VbReply → W �
     pub rest : new ≡ record old { vbs = new.vbs; dials = new.dials }
 
 module _ {W J : Type 0} (step : W → ℕ → VbCall → Option VbReply → W → Type 0) (asks : J → ℕ → (ask : Ask) → Got ask → J → Type 0) where
+  -- a peer's connection was asked for frames of its streams
+  abbrev pub PeerPulled : ℕ → KeptPeer → W → J → NodeOut → KeptPeer → W → J → Type 0
+  PeerPulled frames kept old disks out left new disks' =
+      (kept.spent ≡ false) × (left.spent ≡ false)
+      × ((told : PullResult) × RanJob step asks (peer_pulled frames kept.plain) old disks told new disks' × (out ≡ pull_out told) × (left.plain ≡ told.peer))
+
+  -- a client's connection was asked for frames of its streams
+  abbrev pub ClientWasPulled : ℕ → KeptClient → W → J → NodeOut → KeptClient → W → J → Type 0
+  ClientWasPulled frames kept old disks out left new disks' =
+      (kept.spent ≡ false) × (left.spent ≡ false)
+      × ((told : ClientPulled) × RanJob step asks (client_pulled frames kept.plain) old disks told new disks' × (out ≡ client_pull_out told) × (left.plain ≡ told.client))
+
+  -- a connection was asked for frames of its streams
+  abbrev pub ConnPulled : ℕ → Conn → W → J → NodeOut → Conn → W → J → Type 0
+  ConnPulled frames (conn.Client kept) old disks out (conn.Client left) new disks' = ClientWasPulled frames kept old disks out left new disks'
+  ConnPulled frames (conn.Client kept) old disks out (conn.Peer left) new disks' = ⊥
+  ConnPulled frames (conn.Peer kept) old disks out (conn.Peer left) new disks' = PeerPulled frames kept old disks out left new disks'
+  ConnPulled frames (conn.Peer kept) old disks out (conn.Client left) new disks' = ⊥
+
+  -- memory was short while a connection was asked for frames
+  abbrev pub ConnHalted : ℕ → Conn → W → J → W → J → Type 0
+  ConnHalted frames (conn.Client kept) old disks new disks' = (kept.spent ≡ true → (new ≡ old) × (disks' ≡ disks)) × BeganJob step asks (client_pulled frames kept.plain) old disks new disks'
+  ConnHalted frames (conn.Peer kept) old disks new disks' = (kept.spent ≡ true → (new ≡ old) × (disks' ≡ disks)) × BeganJob step asks (peer_pulled frames kept.plain) old disks new disks'
+
+  -- the connection of a key was asked for frames
+  pub record Pulled (frames key : ℕ) (found : Conn) (old : Node W J) (out : NodeOut) (new : Node W J) : Type 0 where
+    pub left : Conn
+    pub pulled : ConnPulled frames found old.vbs old.disks out left new.vbs new.disks
+    pub conns : Updates old.conns new.conns key (Some left)
+    pub rest : new ≡ record old { vbs = new.vbs; disks = new.disks; conns = new.conns }
+
+  -- frames of the connection of a key; where there is none, that is refused
+  abbrev pub PulledAt : ℕ → ℕ → Option Conn → Node W J → NodeOut → Node W J → Type 0
+  PulledAt frames key None old out new = (out ≡ refused_out cause.LinkClosed) × (new ≡ old)
+  PulledAt frames key (Some found) old out new = Pulled frames key found old out new
+
+  -- memory was short while the connection of a key was asked for frames
+  pub record Halted (frames key : ℕ) (old new : Node W J) : Type 0 where
+    pub found : Conn
+    pub left : Conn
+    pub had : get old.conns key ≡ Some found
+    pub halted : ConnHalted frames found old.vbs old.disks new.vbs new.disks
+    pub spent : is_spent left ≡ true
+    pub stays : LeftOf found left
+    pub conns : Updates old.conns new.conns key (Some left)
+    pub rest : new ≡ record old { vbs = new.vbs; disks = new.disks; conns = new.conns }
+
   -- the dial of the vBucket v, which was not spent, was given bytes; one that is over is let go
   pub record DialFed (v : ℕ) (piece : List ℕ) (found : KeptDial) (old : Node W J) (out : NodeOut) (new : Node W J) : Type 0 where
     pub fresh : found.spent ≡ false

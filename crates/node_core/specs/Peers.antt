@@ -6,6 +6,7 @@ use Rattle.vb_events.specs.declared.event.Answer.{Answer}
 use Rattle.vb_events.specs.declared.event.Answer.TheVariants.{Pulled}
 use Rattle.vb_events.specs.declared.event.Event.{Event}
 use Rattle.vb_calls.specs.declared.calls.Resolved.{Resolved}
+use Rattle.vb_calls.specs.Jobs.{Job, Ended, bind_job}
 use Rattle.vb_calls.specs.Programs.{Prog, Done, bind}
 use Rattle.dcp_producer.specs.declared.desk.Desk.{Desk}
 use Rattle.dcp_producer.specs.declared.halt.Halt.{Halt}
@@ -63,8 +64,8 @@ abbrev pub pull_result : List ℕ → Served × Halt → PullResult
 pull_result heard (s, halt) = record { peer = record { heard = heard; producer = s.end }; events = s.events; out = s.out; answer = Pulled s.count (why_of halt) }
 
 -- at most so many frames of a peer's streams
-abbrev pub peer_pulled : ℕ → PlainPeer → Prog PullResult
-peer_pulled frames peer = bind (frames_put frames (begun peer.producer)) (λ put. Done (pull_result peer.heard put))
+abbrev pub peer_pulled : ℕ → PlainPeer → Job PullResult
+peer_pulled frames peer = bind_job (frames_put frames (begun peer.producer)) (λ put. Ended (pull_result peer.heard put))
 
 -- the connection, where a change of role at the vBucket v ended the streams of these numbers
 abbrev pub peer_ended : ℕ → List ℕ → PlainPeer → PlainPeer

@@ -2,7 +2,7 @@
 ghost use Rattle.std.specs.Prelude.{◌≡◌, ◌++◌, false, true, take, drop, Some, None, IfOk, OnOk, OnErr};
 ghost use Rattle.{std.specs.List.{All}, client_session.specs.Serving.{awaits}, dcp_producer.specs.{Dropping.{cursor_dropped}, Ending.{end_closed}}, node_core.specs.Outs.{client_out, client_pull_out, client_pulled_by, handling_by}};
 ghost use Rattle.node_core.specs.Clients.{IsProducers, client_ended, client_fed, client_posted, client_pulled, closed_if, frames_passed, front_len, handling, new_client, passed_by, reply_alone, with_replies};
-ghost use Rattle.vb_calls.specs.Programs.{Ran, Began, More, bind};
+ghost use Rattle.vb_calls.specs.{Jobs.{RanJob, BeganJob}, Programs.{Ran, Began, More, bind}};
 
 use crate::copies::copy_line;
 use crate::out::bytes_of;
@@ -13,7 +13,7 @@ use dcp_producer::{Desk, Producer};
 use mcbp_frame::{Frame, HEADER_LEN};
 use std::alloc::{AllocError, Global};
 use std::marker::Model;
-use vb_calls::{Resolved, VbAccess};
+use vb_calls::{Journals, Resolved, VbAccess};
 use vb_events::{Answer, Event, StreamName};
 use vb_types::Listed;
 
@@ -238,21 +238,26 @@ impl Client {
     }
 
     /// Puts at most so many frames of the streams, each as a reply behind its line.
-    #[tactic(auto, using(vb_calls::proofs::Runs::runs))]
-    pub fn pull<A: VbAccess>(&mut self, vbs: &mut A, frames: u32) -> Alloc<NodeOut>
-        ensures ok { IfOk result (λ out. Ran A.step (client_pulled frames self.old.plain) vbs.old (client_pulled_by self.new.plain out) vbs.new) }
+    #[tactic(auto, using(vb_calls::proofs::JobRuns::jobs))]
+    pub fn pull<A: VbAccess, J: Journals>(
+        &mut self,
+        vbs: &mut A,
+        disks: &mut J,
+        frames: u32,
+    ) -> Alloc<NodeOut>
+        ensures ok { IfOk result (λ out. RanJob A.step J.asks (client_pulled frames self.old.plain) vbs.old disks.old (client_pulled_by self.new.plain out) vbs.new disks.new) }
         ensures said { IfOk result (λ out. out ≡ client_pull_out (client_pulled_by self.new.plain out)) }
         ensures kept { IfOk result (λ out. (self.old.spent ≡ false) × (self.new.spent ≡ false)) }
-        ensures err { OnErr result (Began A.step (client_pulled frames self.old.plain) vbs.old vbs.new) }
+        ensures err { OnErr result (BeganJob A.step J.asks (client_pulled frames self.old.plain) vbs.old disks.old vbs.new disks.new) }
         ensures spent { OnErr result (self.new.spent ≡ true) }
-        ensures over { OnErr result (self.old.spent ≡ true → vbs.new ≡ vbs.old) }
+        ensures over { OnErr result (self.old.spent ≡ true → (vbs.new ≡ vbs.old) × (disks.new ≡ disks.old)) }
         ensures same { OnErr result (self.old.spent ≡ true → self.new ≡ self.old) }
         ensures desk { self.new.plain.producer.desk ≡ self.old.plain.producer.desk }
     {
         if std::mem::replace(&mut self.spent, true) {
             return Err(AllocError);
         }
-        let pulled = self.producer.pull(vbs, frames)?;
+        let pulled = self.producer.pull(vbs, disks, frames)?;
         let out = bytes_of(pulled.out)?;
         let mut lines = Listed::new(self.alloc);
         let who = self.session.who();

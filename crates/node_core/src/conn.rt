@@ -11,7 +11,7 @@ use dcp_producer::Desk;
 use mcbp_frame::Frame;
 use slab::Slab;
 use std::alloc::Global;
-use vb_calls::{Resolved, VbAccess};
+use vb_calls::{Journals, Resolved, VbAccess};
 use vb_events::{Cause, StreamName};
 
 /// A connection: a client's, or a peer's. Streams may feed either.
@@ -134,15 +134,21 @@ impl Conn {
     }
 
     /// Puts at most so many frames of its streams.
-    pub fn pull<A: VbAccess>(&mut self, alloc: Global, vbs: &mut A, frames: u32) -> Alloc<NodeOut>
-        ensures ok { IfOk result (λ out. ConnPulled A.step frames self.old vbs.old out self.new vbs.new) }
-        ensures err { OnErr result (ConnHalted A.step frames self.old vbs.old vbs.new) }
+    pub fn pull<A: VbAccess, J: Journals>(
+        &mut self,
+        alloc: Global,
+        vbs: &mut A,
+        disks: &mut J,
+        frames: u32,
+    ) -> Alloc<NodeOut>
+        ensures ok { IfOk result (λ out. ConnPulled A.step J.asks frames self.old vbs.old disks.old out self.new vbs.new disks.new) }
+        ensures err { OnErr result (ConnHalted A.step J.asks frames self.old vbs.old disks.old vbs.new disks.new) }
         ensures spent { OnErr result (is_spent self.new ≡ true) }
         ensures left { OnErr result (LeftOf self.old self.new) }
     {
         match self {
-            Conn::Client(client) => client.pull(vbs, frames),
-            Conn::Peer(peer) => peer.pull(alloc, vbs, frames),
+            Conn::Client(client) => client.pull(vbs, disks, frames),
+            Conn::Peer(peer) => peer.pull(alloc, vbs, disks, frames),
         }
     }
 

@@ -162,6 +162,6 @@ pub fn told_in_numbers()
         → activity_of_reply (Some (record { answer = answer.Status status.Einval; resolved = resolved; ended = ids; branch = 8; changes = changes })) ≡ Some false }
     ensures pulled { (heard : List ℕ) (s : Put) → ((pull_result heard (s, halt.All)).answer ≡ line.Pulled s.count why.All) × ((pull_result heard (s, halt.Idle)).answer ≡ line.Pulled s.count why.Idle)
         × ((pull_result heard (s, halt.Full)).answer ≡ line.Pulled s.count why.Full) × ((pull_result heard (s, halt.WaitSaved)).answer ≡ line.Pulled s.count why.WaitSaved)
-        × ((pull_result heard (s, halt.WaitState)).answer ≡ line.Pulled s.count why.WaitState) }
+        × ((pull_result heard (s, halt.WaitState)).answer ≡ line.Pulled s.count why.WaitState) × ((pull_result heard (s, halt.Disk)).answer ≡ line.Pulled s.count why.Disk) }
     ensures failed { (flush_result 1 2 flushed.Closed ≡ flush_answered (line.No cause.Closed)) × (flush_result 1 2 flushed.DiskFailed ≡ flush_answered (line.No cause.Disk)) }
 {}

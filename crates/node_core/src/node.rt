@@ -258,13 +258,13 @@ impl<A: VbAccess, J: Journals> Node<A, J> {
     /// connection has that key. After an `Err` the connection is spent.
     #[tactic(auto, using(crate::proofs::Keys::updates_again))]
     pub fn pull(&mut self, key: usize, frames: u32) -> Alloc<NodeOut>
-        ensures ok { IfOk result (λ out. PulledAt A.step frames key (get self.old.conns key) self.old out self.new) }
-        ensures err { OnErr result (Halted A.step frames key self.old self.new) }
+        ensures ok { IfOk result (λ out. PulledAt A.step J.asks frames key (get self.old.conns key) self.old out self.new) }
+        ensures err { OnErr result (Halted A.step J.asks frames key self.old self.new) }
     {
         let Some(mut conn) = self.conns.try_remove(key) else {
             return Ok(NodeOut::refused(self.alloc, Cause::LinkClosed));
         };
-        let put = conn.pull(self.alloc, &mut self.vbs, frames);
+        let put = conn.pull(self.alloc, &mut self.vbs, &mut self.disks, frames);
         put_back(&mut self.conns, key, conn, false);
         put
     }

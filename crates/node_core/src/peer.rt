@@ -1,7 +1,7 @@
 //! A peer's connection.
 ghost use Rattle.std.specs.Prelude.{◌≡◌, false, true, [], IfOk, OnOk, OnErr};
 ghost use Rattle.{dcp_producer.specs.{Dropping.{cursor_dropped}, Ending.{end_closed}}, node_core.specs.Outs.{peer_out, peer_result_by, pulled_by}, node_core.specs.Peers.{new_peer, peer_heard, peer_frames, peer_answered, peer_pulled, peer_ended}};
-ghost use Rattle.{node_core.specs.GivingUp.{gave_of, peer_gives_up}, vb_calls.specs.Programs.{Ran, Began}};
+ghost use Rattle.{node_core.specs.GivingUp.{gave_of, peer_gives_up}, vb_calls.specs.Jobs.{RanJob, BeganJob}, vb_calls.specs.Programs.{Ran, Began}};
 
 use crate::giving::Gave;
 use crate::out::bytes_of;
@@ -10,7 +10,7 @@ use dcp_producer::{Desk, Producer};
 use mcbp_frame::{Frame, FrameReader};
 use std::alloc::{AllocError, Global};
 use std::marker::Model;
-use vb_calls::VbAccess;
+use vb_calls::{Journals, VbAccess};
 use vb_events::Answer;
 
 /// A peer's connection: the bytes that came and are no whole frame yet, and the producer of its
@@ -88,21 +88,27 @@ impl Peer {
     }
 
     /// Puts at most so many frames of the streams.
-    #[tactic(auto, using(vb_calls::proofs::Runs::runs))]
-    pub fn pull<A: VbAccess>(&mut self, alloc: Global, vbs: &mut A, frames: u32) -> Alloc<NodeOut>
-        ensures ok { IfOk result (λ out. Ran A.step (peer_pulled frames self.old.plain) vbs.old (pulled_by self.new.plain out) vbs.new) }
+    #[tactic(auto, using(vb_calls::proofs::JobRuns::jobs))]
+    pub fn pull<A: VbAccess, J: Journals>(
+        &mut self,
+        alloc: Global,
+        vbs: &mut A,
+        disks: &mut J,
+        frames: u32,
+    ) -> Alloc<NodeOut>
+        ensures ok { IfOk result (λ out. RanJob A.step J.asks (peer_pulled frames self.old.plain) vbs.old disks.old (pulled_by self.new.plain out) vbs.new disks.new) }
         ensures said { IfOk result (λ out. (out.closed ≡ false) × (out.resolved ≡ [])) }
         ensures kept { IfOk result (λ out. (self.old.spent ≡ false) × (self.new.spent ≡ false)) }
-        ensures err { OnErr result (Began A.step (peer_pulled frames self.old.plain) vbs.old vbs.new) }
+        ensures err { OnErr result (BeganJob A.step J.asks (peer_pulled frames self.old.plain) vbs.old disks.old vbs.new disks.new) }
         ensures spent { OnErr result (self.new.spent ≡ true) }
-        ensures over { OnErr result (self.old.spent ≡ true → vbs.new ≡ vbs.old) }
+        ensures over { OnErr result (self.old.spent ≡ true → (vbs.new ≡ vbs.old) × (disks.new ≡ disks.old)) }
         ensures same { OnErr result (self.old.spent ≡ true → self.new ≡ self.old) }
         ensures desk { self.new.plain.producer.desk ≡ self.old.plain.producer.desk }
     {
         if std::mem::replace(&mut self.spent, true) {
             return Err(AllocError);
         }
-        let pulled = self.producer.pull(vbs, frames)?;
+        let pulled = self.producer.pull(vbs, disks, frames)?;
         let out = bytes_of(pulled.out)?;
         self.spent = false;
         let answer = Answer::Pulled(pulled.count, pulled.halt.why());

@@ -11,14 +11,14 @@ use Rattle.node_core.specs.declared.conn.Conn.{Conn}
 use Rattle.node_core.specs.declared.conn.Conn.TheVariants as conn
 use Rattle.node_core.specs.declared.node.Node.{Node}
 use Rattle.node_core.specs.declared.out.NodeOut.{NodeOut}
-use Rattle.node_core.specs.Clients.{Handling, ClientPulled, client_fed, client_posted, client_pulled}
+use Rattle.node_core.specs.Clients.{Handling, client_fed, client_posted}
 use Rattle.dcp_producer.specs.declared.yields.Yielded.{Yielded}
 use Rattle.node_core.specs.GivingUp.{GaveUpAt, ConnGaveUp, ConnUngiven, GiveResult, given_out, peer_gives_up}
-use Rattle.node_core.specs.Outcomes.{FedAt, ConnFed, ConnStopped, PostedAt, ConnPosted, ConnUnposted, AnsweredAt, ConnAnswered, ConnUnanswered, PulledAt, ConnPulled, ConnHalted, DroppedAt, producer_in}
-use Rattle.node_core.specs.Outs.{client_out, client_pull_out, peer_out, pull_out, dropped_out}
-use Rattle.node_core.specs.Peers.{PeerResult, PullResult, peer_answered, peer_pulled}
-use Rattle.node_told.specs.Told.{PieceTold, PieceBegan, OutcomeTold, OutcomeBegan, AnswerTold, AnswerBegan, PullTold, PullBegan, YieldTold, YieldBegan, DropTold}
-use Rattle.node_told.specs.Laws.{PiecesAreTold, OutcomesAreTold, AnswersAreTold, PullsAreTold, YieldsAreTold, DropsAreTold, HearingCallsNothing}
+use Rattle.node_core.specs.Outcomes.{FedAt, ConnFed, ConnStopped, PostedAt, ConnPosted, ConnUnposted, AnsweredAt, ConnAnswered, ConnUnanswered, DroppedAt, producer_in}
+use Rattle.node_core.specs.Outs.{client_out, peer_out, dropped_out}
+use Rattle.node_core.specs.Peers.{PeerResult, peer_answered}
+use Rattle.node_told.specs.Told.{PieceTold, PieceBegan, OutcomeTold, OutcomeBegan, AnswerTold, AnswerBegan, YieldTold, YieldBegan, DropTold}
+use Rattle.node_told.specs.Laws.{PiecesAreTold, OutcomesAreTold, AnswersAreTold, YieldsAreTold, DropsAreTold, HearingCallsNothing}
 use Rattle.node_told.proofs.Ran.{quiet, told, first}
 
 abbrev vbs_of : {W J : Type 0} → Node W J → W
@@ -59,16 +59,6 @@ module _ {W : Type 0} (step : W → ℕ → VbCall → Option VbReply → W → 
   unanswered f (conn.Peer kept) old new s = first step mine lists (peer_answered f kept.plain) old new s.1
   unanswered f (conn.Client kept) old new s = s
 
-  conn_pulled : (frames : ℕ) (found : Conn) (old : W) (out : NodeOut) (left : Conn) (new : W) → ConnPulled step frames found old out left new → PullTold mine frames (Some found) out old new
-  conn_pulled frames (conn.Client kept) old out (conn.Client left) new p = told step mine lists (client_pulled frames kept.plain) (λ (r : ClientPulled). out ≡ client_pull_out r) old p.2.0 new p.2.1 p.2.2
-  conn_pulled frames (conn.Client kept) old out (conn.Peer left) new p = absurd p
-  conn_pulled frames (conn.Peer kept) old out (conn.Peer left) new p = told step mine lists (peer_pulled frames kept.plain) (λ (r : PullResult). out ≡ pull_out r) old p.2.0 new p.2.1 p.2.2
-  conn_pulled frames (conn.Peer kept) old out (conn.Client left) new p = absurd p
-
-  halted : (frames : ℕ) (found : Conn) (old new : W) → ConnHalted step frames found old new → PullBegan mine frames found old new
-  halted frames (conn.Client kept) old new s = first step mine lists (client_pulled frames kept.plain) old new s.1
-  halted frames (conn.Peer kept) old new s = first step mine lists (peer_pulled frames kept.plain) old new s.1
-
   conn_gave : (number frames : ℕ) (found : Conn) (old : W) (given : List Yielded) (out : NodeOut) (left : Conn) (new : W) → ConnGaveUp step frames found old given left new → out ≡ given_out number given → YieldTold mine number frames (Some found) out old new
   conn_gave number frames (conn.Client kept) old given out left new g said = (said ∙ ap (given_out number) g.1, quiet mine old new g.0)
   conn_gave number frames (conn.Peer kept) old given out (conn.Peer left) new g said =
@@ -108,16 +98,6 @@ module _ {W J : Type 0} (step : W → ℕ → VbCall → Option VbReply → W �
   answers = record {
     answered = λ key f old out new a. answered key f (get old.conns key) old out new a;
     stopped = λ key f old new s. (s.found, s.had, unanswered step mine lists f s.found old.vbs new.vbs s.stopped);
-  }
-
-  pulled : (frames key : ℕ) (found : Option Conn) (old : Node W J) (out : NodeOut) (new : Node W J) → PulledAt step frames key found old out new → PullTold mine frames found out old.vbs new.vbs
-  pulled frames key None old out new p = (p.0, quiet mine old.vbs new.vbs (ap vbs_of p.1))
-  pulled frames key (Some found) old out new p = conn_pulled step mine lists frames found old.vbs out p.left new.vbs p.pulled
-
-  pub pulls : PullsAreTold J step mine
-  pulls = record {
-    pulled = λ frames key old out new p. pulled frames key (get old.conns key) old out new p;
-    stopped = λ frames key old new s. (s.found, s.had, halted step mine lists frames s.found old.vbs new.vbs s.halted);
   }
 
   gave : (frames key : ℕ) (found : Option Conn) (old : Node W J) (out : NodeOut) (new : Node W J) → GaveUpAt step frames key found old out new → YieldTold mine old.number frames found out old.vbs new.vbs

@@ -1,5 +1,6 @@
 -- the calls of a node that ask its journals too
 use Rattle.std.proofs.Common.{◌≡◌, ◌⊎◌, inl, inr, ℕ, List, Option, Some, None, Bool, true, false, ap}
+use Rattle.slab.specs.Slab.{get}
 use Rattle.vb_calls.specs.declared.calls.VbCall.{VbCall}
 use Rattle.vb_calls.specs.declared.calls.VbReply.{VbReply}
 use Rattle.vb_calls.specs.Flushes.{wrote_of}
@@ -7,21 +8,45 @@ use Rattle.vb_calls.specs.Shelves.{Ask, Fate, Got}
 use Rattle.vb_events.specs.declared.event.Cause.TheVariants as cause
 use Rattle.vb_types.specs.declared.role.Role.{Role}
 use Rattle.vb_told.specs.Laws.{ListsCalls, ListsNoMakes}
+use Rattle.node_core.specs.declared.conn.Conn.{Conn}
+use Rattle.node_core.specs.declared.conn.Conn.TheVariants as conn
 use Rattle.node_core.specs.declared.node.Node.{Node}
 use Rattle.node_core.specs.declared.out.NodeOut.{NodeOut}
 use Rattle.node_core.specs.Admin.{AdminResult, admin_job}
+use Rattle.node_core.specs.Clients.{ClientPulled, client_pulled}
 use Rattle.node_core.specs.Dials.{KeptDial, DialResult, dial_bytes}
 use Rattle.node_core.specs.Flushing.{FlushResult, flush_at}
-use Rattle.node_core.specs.Outcomes.{value_at, DialFedAt, MadeIf}
-use Rattle.node_core.specs.Outs.{refused_out, made_out, flush_out, dial_out, dial_ended, admin_out}
-use Rattle.node_told.specs.Told.{DialTold}
-use Rattle.node_told.specs.Laws.{DialsAreTold, OperatorsAreTold, FlushesAreTold, MakesAreTold}
+use Rattle.node_core.specs.Outcomes.{value_at, ConnPulled, ConnHalted, PulledAt, DialFedAt, MadeIf}
+use Rattle.node_core.specs.Outs.{refused_out, made_out, flush_out, client_pull_out, pull_out, dial_out, dial_ended, admin_out}
+use Rattle.node_core.specs.Peers.{PullResult, peer_pulled}
+use Rattle.node_told.specs.Told.{DialTold, PullTold, PullBegan}
+use Rattle.node_told.specs.Laws.{DialsAreTold, PullsAreTold, OperatorsAreTold, FlushesAreTold, MakesAreTold}
 use Rattle.node_told.proofs.Ran.{quiet, told_job, first_job}
 
 abbrev vbs_of : {W J : Type 0} → Node W J → W
 vbs_of n = n.vbs
 
 module _ {W J : Type 0} (step : W → ℕ → VbCall → Option VbReply → W → Type 0) (asks : J → ℕ → (ask : Ask) → Got ask → J → Type 0) (mine : W → ℕ → List (VbCall × VbReply)) (lists : ListsCalls step mine) where
+  conn_pulled : (frames : ℕ) (found : Conn) (old : W) (kept : J) (out : NodeOut) (left : Conn) (new : W) (held : J) → ConnPulled step asks frames found old kept out left new held → PullTold mine frames (Some found) out old new
+  conn_pulled frames (conn.Client kept) old disks out (conn.Client left) new held p = told_job step mine lists asks (client_pulled frames kept.plain) (λ (r : ClientPulled). out ≡ client_pull_out r) old disks p.2.0 new held p.2.1 p.2.2
+  conn_pulled frames (conn.Client kept) old disks out (conn.Peer left) new held p = absurd p
+  conn_pulled frames (conn.Peer kept) old disks out (conn.Peer left) new held p = told_job step mine lists asks (peer_pulled frames kept.plain) (λ (r : PullResult). out ≡ pull_out r) old disks p.2.0 new held p.2.1 p.2.2
+  conn_pulled frames (conn.Peer kept) old disks out (conn.Client left) new held p = absurd p
+
+  halted : (frames : ℕ) (found : Conn) (old : W) (kept : J) (new : W) (held : J) → ConnHalted step asks frames found old kept new held → PullBegan mine frames found old new
+  halted frames (conn.Client kept) old disks new held s = first_job step mine lists asks (client_pulled frames kept.plain) old disks new held s.1
+  halted frames (conn.Peer kept) old disks new held s = first_job step mine lists asks (peer_pulled frames kept.plain) old disks new held s.1
+
+  pulled : (frames key : ℕ) (found : Option Conn) (old : Node W J) (out : NodeOut) (new : Node W J) → PulledAt step asks frames key found old out new → PullTold mine frames found out old.vbs new.vbs
+  pulled frames key None old out new p = (p.0, quiet mine old.vbs new.vbs (ap vbs_of p.1))
+  pulled frames key (Some found) old out new p = conn_pulled frames found old.vbs old.disks out p.left new.vbs new.disks p.pulled
+
+  pub pulls : PullsAreTold step asks mine
+  pulls = record {
+    pulled = λ frames key old out new p. pulled frames key (get old.conns key) old out new p;
+    stopped = λ frames key old new s. (s.found, s.had, halted frames s.found old.vbs old.disks new.vbs new.disks s.halted);
+  }
+
   dial_fed : (v : ℕ) (piece : List ℕ) (found : Option KeptDial) (old : Node W J) (out : NodeOut) (new : Node W J) → DialFedAt step asks v piece found old out new → DialTold mine piece found out old.vbs new.vbs
   dial_fed v piece None old out new f = (f.0, quiet mine old.vbs new.vbs (ap vbs_of f.1))
   dial_fed v piece (Some found) old out new f = told_job step mine lists asks (dial_bytes piece found.plain) (λ (r : DialResult). out ≡ dial_out r) old.vbs old.disks f.told new.vbs new.disks f.ran f.said

@@ -46,11 +46,6 @@ module _ {W : Type 0} (J : Type 0) (step : W → ℕ → VbCall → Option VbRep
     pub answered : (key : ℕ) (f : Frame) (old : Node W J) (out : NodeOut) (new : Node W J) → AnsweredAt step key f (get old.conns key) old out new → AnswerTold mine f (get old.conns key) out old.vbs new.vbs
     pub stopped : (key : ℕ) (f : Frame) (old new : Node W J) → Unanswered step key f old new → (found : Conn) × (get old.conns key ≡ Some found) × AnswerBegan mine f found old.vbs new.vbs
 
-  -- frames that are pulled
-  pub record PullsAreTold : Type 0 where
-    pub pulled : (frames key : ℕ) (old : Node W J) (out : NodeOut) (new : Node W J) → PulledAt step frames key (get old.conns key) old out new → PullTold mine frames (get old.conns key) out old.vbs new.vbs
-    pub stopped : (frames key : ℕ) (old new : Node W J) → Halted step frames key old new → (found : Conn) × (get old.conns key ≡ Some found) × PullBegan mine frames found old.vbs new.vbs
-
   -- vBuckets that are to be given up in front of a pull
   pub record YieldsAreTold : Type 0 where
     pub given : (frames key : ℕ) (old : Node W J) (out : NodeOut) (new : Node W J) → GaveUpAt step frames key (get old.conns key) old out new → YieldTold mine old.number frames (get old.conns key) out old.vbs new.vbs
@@ -75,6 +70,11 @@ module _ {W : Type 0} (J : Type 0) (step : W → ℕ → VbCall → Option VbRep
     pub stopped : (v : ℕ) (old new : Node W J) → DialUndue step v old new → (found : KeptDial) × (value_at old.dials v ≡ Some found) × FirstOfProg mine (dial_due found.plain) old.vbs new.vbs
 
 module _ {W J : Type 0} (step : W → ℕ → VbCall → Option VbReply → W → Type 0) (asks : J → ℕ → (ask : Ask) → Got ask → J → Type 0) (mine : W → ℕ → List (VbCall × VbReply)) where
+  -- frames that are pulled
+  pub record PullsAreTold : Type 0 where
+    pub pulled : (frames key : ℕ) (old : Node W J) (out : NodeOut) (new : Node W J) → PulledAt step asks frames key (get old.conns key) old out new → PullTold mine frames (get old.conns key) out old.vbs new.vbs
+    pub stopped : (frames key : ℕ) (old new : Node W J) → Halted step asks frames key old new → (found : Conn) × (get old.conns key ≡ Some found) × PullBegan mine frames found old.vbs new.vbs
+
   -- bytes of a dial's producer
   pub record DialsAreTold : Type 0 where
     pub fed : (v : ℕ) (piece : List ℕ) (old : Node W J) (out : NodeOut) (new : Node W J) → DialFedAt step asks v piece (value_at old.dials v) old out new → DialTold mine piece (value_at old.dials v) out old.vbs new.vbs

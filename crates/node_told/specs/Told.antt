@@ -89,13 +89,13 @@ module _ {W : Type 0} (mine : W → ℕ → List (VbCall × VbReply)) where
 
   -- a connection was asked for frames of its streams. Where there is none, that is refused
   abbrev pub PullTold : ℕ → Option Conn → NodeOut → W → W → Type 0
-  PullTold frames (Some (conn.Client kept)) out old new = ToldProg (client_pulled frames kept.plain) (λ told. out ≡ client_pull_out told) old new
-  PullTold frames (Some (conn.Peer kept)) out old new = ToldProg (peer_pulled frames kept.plain) (λ told. out ≡ pull_out told) old new
+  PullTold frames (Some (conn.Client kept)) out old new = ToldOfJob (client_pulled frames kept.plain) (λ told. out ≡ client_pull_out told) old new
+  PullTold frames (Some (conn.Peer kept)) out old new = ToldOfJob (peer_pulled frames kept.plain) (λ told. out ≡ pull_out told) old new
   PullTold frames None out old new = Refused out old new
 
   abbrev pub PullBegan : ℕ → Conn → W → W → Type 0
-  PullBegan frames (conn.Client kept) old new = FirstOfProg (client_pulled frames kept.plain) old new
-  PullBegan frames (conn.Peer kept) old new = FirstOfProg (peer_pulled frames kept.plain) old new
+  PullBegan frames (conn.Client kept) old new = FirstOfJob (client_pulled frames kept.plain) old new
+  PullBegan frames (conn.Peer kept) old new = FirstOfJob (peer_pulled frames kept.plain) old new
 
   -- a connection of the node of this number was to give vBuckets up: a client's gives none up, and calls nothing. Where there is none, that is refused
   abbrev pub YieldTold : ℕ → ℕ → Option Conn → NodeOut → W → W → Type 0

@@ -30,9 +30,10 @@ pub fn outcomes_are_told<A: VbAccess, J: Journals>()
     ensures { (mine : A → ℕ → List (VbCall × VbReply)) → ListsCalls A.step mine → OutcomesAreTold J A.step mine }
 {}
 
-/// `pull`: the same of frames of a connection's streams.
+/// `pull`: a connection made its job's calls, with the replies that the lists gained and some readings of
+/// its journals, and hands out what that comes to.
 pub fn pulls_are_told<A: VbAccess, J: Journals>()
-    ensures { (mine : A → ℕ → List (VbCall × VbReply)) → ListsCalls A.step mine → PullsAreTold J A.step mine }
+    ensures { (mine : A → ℕ → List (VbCall × VbReply)) → ListsCalls A.step mine → PullsAreTold A.step J.asks mine }
 {}
 
 /// `give_up`: the same of the vBuckets that a connection gives up, each of which is told dead.
@@ -84,7 +85,7 @@ pub fn nodes_over_seats_are_told<J: Journals>()
     ensures hearing { HearingCallsNothing J mine_of }
     ensures answers { AnswersAreTold J seat_step mine_of }
     ensures outcomes { OutcomesAreTold J seat_step mine_of }
-    ensures pulls { PullsAreTold J seat_step mine_of }
+    ensures pulls { PullsAreTold seat_step J.asks mine_of }
     ensures yields { YieldsAreTold J seat_step mine_of }
     ensures drops { DropsAreTold J seat_step mine_of }
     ensures dials { DialsAreTold seat_step J.asks mine_of }

@@ -17,6 +17,7 @@ use Rattle.vb_calls.specs.State.{Plain, first_log, new_vb}
 use Rattle.node_core.specs.Calls.{named_ask}
 use Rattle.node_core.specs.Clients.{PlainClient, client_pulled, new_client}
 use Rattle.dcp_producer.specs.Ending.{end_closed}
+use Rattle.vb_calls.specs.Jobs.{after_reads}
 use Rattle.vb_calls.specs.Programs.{after}
 use Rattle.vb_calls.specs.States.{States}
 use Rattle.node_world.specs.declared.arm.Arm.{Arm}
@@ -31,6 +32,7 @@ use Rattle.node_world.specs.Power.{after_fire, with_arm}
 use Rattle.node_world.specs.World.{ask_in, base_of, link_causes, with_dialed}
 use Rattle.node_world.specs.Worlds.{PlainWorld, Outcome, arm_in, on_made, on_node, vb_in, with_links}
 use Rattle.node_world.proofs.CallsMade.{leaves_so, line_is}
+use Rattle.node_world.proofs.PullReads.{pull_is}
 use Rattle.node_world.proofs.NodeCauses.{vb_row}
 use Rattle.node_world.proofs.Shelved.{shelf_here}
 use Rattle.node_world.proofs.Unfired.{append_burns, left_burnt, made_as, over_is, stood_passed}
@@ -65,9 +67,9 @@ module _ (w : PlainWorld) (n : ℕ) (node : PlainNode) (there : w.nodes n ≡ So
         );
     hangs = λ number c client is. let states = (after (end_closed client.producer) node.vbs).0 in (left states c None, left_client c states None (done []) (hang_at c) (ap (hung_if c node) is), put_client c None);
     pulls = λ number c frames client is.
-        let put = after (client_pulled frames client) node.vbs in
+        let put = after_reads (client_pulled frames client) node.shelves node.vbs in
         let told : Told = record { events = put.1.events; answer = put.1.answer } in
-        let goes : pull_at c frames node ≡ (left put.0 c (Some put.1.client), told) = ap (pull_if c frames node) is in (
+        let goes : pull_at c frames node ≡ (left put.0 c (Some put.1.client), told) = ap (pull_if c frames node) is ∙ pull_is c frames client node in (
           left put.0 c (Some put.1.client),
           left_client c put.0 (Some put.1.client) told (pull_at c frames) goes,
           put_client c (Some put.1.client),

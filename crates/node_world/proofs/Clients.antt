@@ -6,8 +6,12 @@ use Rattle.std.specs.Option.{option_map, option_copied}
 use Rattle.std.proofs.lemmas.Bool.{eqb-true, eqb-false}
 use Rattle.slab.specs.Slab.{Slab, get}
 use Rattle.slab.specs.Slab as slab
+use Rattle.disk_journals.specs.Devices.{fuse_device}
+use Rattle.disk_journals.specs.Stands.{ShelvesStand}
 use Rattle.vb_events.specs.declared.event.Cause.TheVariants as cause
+use Rattle.vb_calls.specs.Jobs.{after_job}
 use Rattle.vb_calls.specs.Programs.{Prog, after, alone_step}
+use Rattle.vb_calls.specs.Shelves.{Shelves}
 use Rattle.vb_calls.specs.declared.calls.Resolved.{Resolved}
 use Rattle.vb_events.specs.declared.event.Event.{Event}
 use Rattle.dcp_producer.specs.Ending.{end_closed}
@@ -25,11 +29,12 @@ use Rattle.node_world.specs.declared.script_node.ScriptNode.{ScriptNode}
 use Rattle.node_world.specs.declared.told.Told.{Told}
 use Rattle.node_world.specs.Ends.{KeepsEnds, Carries, PostsTo}
 use Rattle.node_world.specs.Lines.{out_told}
-use Rattle.node_world.specs.Nodes.{PlainNode, done, refusal, with_client, with_states, client_at, bytes_if, bytes_at, hung_if, hang_at, pull_if, pull_at, posted_if}
+use Rattle.node_world.specs.Nodes.{PlainNode, done, refusal, with_client, with_kept, with_states, client_at, bytes_if, bytes_at, hung_if, hang_at, pull_if, pull_at, posted_if}
 use Rattle.node_world.specs.Stands.{MemNode, client_part, peer_part, live_client, ClientStands, ClientsStand, BaseStands, IsOfBase, NodeMatch, node_number}
 use Rattle.node_world.proofs.OfBase.{bases_set, fed_of, free_of, left_of, posted_of, pulled_of, stays_of}
 use Rattle.node_world.proofs.Nodes.{off_kept}
-use Rattle.node_world.proofs.Shelved.{same_shelves}
+use Rattle.node_world.proofs.PullReads.{client_job}
+use Rattle.node_world.proofs.Shelved.{MemAsks, known_job, same_shelves}
 use Rattle.node_world.proofs.Conns.{ClientLeft, client_left, client_pull_left, post_left, client_got, clients_set, key_if}
 
 -- a number has a key exactly where it has a connection
@@ -181,13 +186,13 @@ module _ (old : ScriptNode) (c key : ℕ) (node : MemNode) (keys : List (ℕ × 
   is_client plain stands = client_got (get old.node.conns key) _ (found old plain c key has stands).2
 
   -- it is left as this, or not at all, under the key
-  module _ (slot : Option Conn) (updates : slab.Updates old.node.conns node.conns key slot) (rest : node ≡ record old.node { vbs = node.vbs; conns = node.conns }) where
-    pub leaves_client : (plain : PlainNode) (stands : NodeMatch old plain) (states : States) (left : Option PlainClient) → SlotsStand node.vbs states → client_part slot ≡ option_map live_client left → peer_part slot ≡ None
-        → BaseStands left (value_at old.bases c) → Renumbered old.clients keys c (key_if key left) → NodeMatch (reseated old node keys) (with_client (with_states plain states) c left) × KeepsEnds old (reseated old node keys)
-    leaves_client plain stands states left slots part peer based rekeyed = (
+  module _ (slot : Option Conn) (updates : slab.Updates old.node.conns node.conns key slot) (rest : node ≡ record old.node { vbs = node.vbs; disks = node.disks; conns = node.conns }) where
+    leaves_both : (plain : PlainNode) (stands : NodeMatch old plain) (states : States) (held : Shelves) (left : Option PlainClient) → SlotsStand node.vbs states → ShelvesStand fuse_device node.disks held → client_part slot ≡ option_map live_client left → peer_part slot ≡ None
+        → BaseStands left (value_at old.bases c) → Renumbered old.clients keys c (key_if key left) → NodeMatch (reseated old node keys) (with_client (with_kept plain (states, held)) c left) × KeepsEnds old (reseated old node keys)
+    leaves_both plain stands states held left slots shelves part peer based rekeyed = (
       record {
         slots = slots;
-        shelves = same_shelves node old.node plain.shelves (ap (λ (x : MemNode). x.disks) rest) stands.shelves;
+        shelves = shelves;
         made = stands.made;
         clock = stands.clock;
         clients = clients_set old.clients keys old.node.conns node.conns plain.clients c key left (λ d also. stands.clients.apart d c key also has) mine rekeyed
@@ -205,6 +210,14 @@ module _ (old : ScriptNode) (c key : ℕ) (node : MemNode) (keys : List (ℕ × 
           peers = part_stays peer_part old.node.conns node.conns key slot updates (peer ∙ sym (ap peer_part (is_client plain stands)));
           dials = λ v. ap (λ (x : MemNode). value_at x.dials v) rest;
         }
+
+  -- the same where the journals stay
+  module _ (slot : Option Conn) (updates : slab.Updates old.node.conns node.conns key slot) (rest : node ≡ record old.node { vbs = node.vbs; conns = node.conns }) where
+    pub leaves_client : (plain : PlainNode) (stands : NodeMatch old plain) (states : States) (left : Option PlainClient) → SlotsStand node.vbs states → client_part slot ≡ option_map live_client left → peer_part slot ≡ None
+        → BaseStands left (value_at old.bases c) → Renumbered old.clients keys c (key_if key left) → NodeMatch (reseated old node keys) (with_client (with_states plain states) c left) × KeepsEnds old (reseated old node keys)
+    leaves_client plain stands states left slots part peer based rekeyed =
+        let disks : node.disks ≡ old.node.disks = ap (λ (x : MemNode). x.disks) rest in
+        leaves_both slot updates (rest ∙ (λ i. record old.node { vbs = node.vbs; disks = sym disks i; conns = node.conns })) plain stands states plain.shelves left slots (same_shelves node old.node plain.shelves disks stands.shelves) part peer based rekeyed
 
   -- it goes on, through what this says of the clock and the client
   module _ (goes : ℕ → PlainClient → Prog Handling) (goes_so : (base clock : ℕ) (s : PlainClient) (states : States) → IsOfBase base s.session → IsOfBase base (after (goes clock s) states).1.client.session) (out : NodeOut) (left : Conn) (updates : slab.Updates old.node.conns node.conns key (kept_unless out.closed left))
@@ -299,17 +312,18 @@ module _ (old : ScriptNode) (c key : ℕ) (node : MemNode) (keys : List (ℕ × 
         subst (λ (x : PlainNode × Told). NodeMatch (reseated old node keys) x.0 × (done [] ≡ x.1) × KeepsEnds old (reseated old node keys)) (sym (ap (hung_if c plain) there)) (alike, refl, keeps)
 
 -- a connection of this key puts frames of its streams
-module _ (old : ScriptNode) (c key frames : ℕ) (out : NodeOut) (node : MemNode) (has : value_at old.clients c ≡ Some key) (went : PulledAt (alone_step SlotsStand) frames key (get old.node.conns key) old.node out node) where
+module _ (old : ScriptNode) (c key frames : ℕ) (out : NodeOut) (node : MemNode) (has : value_at old.clients c ≡ Some key) (went : PulledAt (alone_step SlotsStand) MemAsks frames key (get old.node.conns key) old.node out node) where
   pub pulls : Carries (pull_at c frames) old (out_told out) (reseated old node old.clients)
   pulls plain stands =
       let (client, there, live) = found old plain c key has stands in
-      let pulled : Pulled (alone_step SlotsStand) frames key (client_conn client) old.node out node =
-      subst (λ o. PulledAt (alone_step SlotsStand) frames key o old.node out node) (is_client old c key node old.clients has plain stands) went in
-      let (told, ran, said, left) = client_pull_left (alone_step SlotsStand) old.node.vbs node.vbs out frames client pulled.left pulled.pulled in
-      let came : States × ClientPulled = after (client_pulled frames client) plain.vbs in
-      let known = alone_after SlotsStand (client_pulled frames client) old.node.vbs told node.vbs ran plain.vbs stands.slots in
-      let (alike, keeps) = leaves_client old c key node old.clients has (Some pulled.left) pulled.conns pulled.rest plain stands came.0 (Some came.1.client) known.1
+      let pulled : Pulled (alone_step SlotsStand) MemAsks frames key (client_conn client) old.node out node =
+      subst (λ o. PulledAt (alone_step SlotsStand) MemAsks frames key o old.node out node) (is_client old c key node old.clients has plain stands) went in
+      let (told, ran, said, left) = client_pull_left (alone_step SlotsStand) old.node.vbs node.vbs out MemAsks old.node.disks node.disks frames client pulled.left pulled.pulled in
+      let came : (States × Shelves) × ClientPulled = after_job (client_pulled frames client) plain.vbs plain.shelves in
+      let known = known_job (client_pulled frames client) old.node told node ran plain.vbs stands.slots plain.shelves stands.shelves in
+      let of = λ (base : ℕ) (own : IsOfBase base client.session). subst (λ (x : (States × Shelves) × ClientPulled). IsOfBase base x.1.client.session) (sym (client_job frames client plain.vbs plain.shelves)) (pulled_of base frames client plain.shelves plain.vbs own) in
+      let (alike, keeps) = leaves_both old c key node old.clients has (Some pulled.left) pulled.conns pulled.rest plain stands came.0.0 came.0.1 (Some came.1.client) known.1 known.2
       (ap (λ x. client_part (Some x)) left ∙ ap (λ (t : ClientPulled). Some (live_client t.client)) known.0) (ap (λ x. peer_part (Some x)) left)
-      (stays_of (value_at old.bases c) client came.1.client (λ base of. pulled_of base frames client plain.vbs of) (base_found old plain c key has stands)) (record { changed = has; others = λ other ne. refl }) in
+      (stays_of (value_at old.bases c) client came.1.client of (base_found old plain c key has stands)) (record { changed = has; others = λ other ne. refl }) in
       subst (λ (x : PlainNode × Told). NodeMatch (reseated old node old.clients) x.0 × (out_told out ≡ x.1) × KeepsEnds old (reseated old node old.clients)) (sym (ap (pull_if c frames plain) there))
       (alike, ap out_told (said ∙ ap client_pull_out known.0), keeps)

@@ -8,7 +8,9 @@ use Rattle.mcbp_frame.specs.declared.frame.Frame.{Frame}
 use Rattle.vb_calls.specs.declared.calls.Resolved.{Resolved}
 use Rattle.vb_calls.specs.declared.calls.VbCall.{VbCall}
 use Rattle.vb_calls.specs.declared.calls.VbReply.{VbReply}
+use Rattle.vb_calls.specs.Jobs.{RanJob}
 use Rattle.vb_calls.specs.Programs.{Prog, Ran}
+use Rattle.vb_calls.specs.Shelves.{Ask, Got}
 use Rattle.node_core.specs.declared.out.NodeOut.{NodeOut}
 use Rattle.node_core.specs.Clients.{PlainClient, KeptClient, Handling, ClientPulled, client_ended, client_fed, client_posted, client_pulled}
 use Rattle.node_core.specs.Outs.{client_out, client_pull_out, peer_out, pull_out}
@@ -183,10 +185,10 @@ module _ {W : Type 0} (step : W → ℕ → VbCall → Option VbReply → W → 
       (s, ran, said, λ i. kept_unless (said i).closed (client_live left s.client h.1 plain i))
 
   -- one that was asked for frames
-  pub client_pull_left : (frames : ℕ) (client : PlainClient) (left : Conn) → ConnPulled step frames (client_conn client) old out left new
-      → (told : ClientPulled) × Ran step (client_pulled frames client) old told new × (out ≡ client_pull_out told) × (left ≡ client_conn told.client)
-  client_pull_left frames client (conn.Peer left) h = absurd h
-  client_pull_left frames client (conn.Client left) h =
+  pub client_pull_left : {J : Type 0} (asks : J → ℕ → (ask : Ask) → Got ask → J → Type 0) (kept held : J) (frames : ℕ) (client : PlainClient) (left : Conn) → ConnPulled step asks frames (client_conn client) old kept out left new held
+      → (told : ClientPulled) × RanJob step asks (client_pulled frames client) old kept told new held × (out ≡ client_pull_out told) × (left ≡ client_conn told.client)
+  client_pull_left asks kept held frames client (conn.Peer left) h = absurd h
+  client_pull_left asks kept held frames client (conn.Client left) h =
       let (told, ran, said, plain) = h.2 in
       (told, ran, said, client_live left told.client h.1 plain)
 
@@ -199,9 +201,9 @@ module _ {W : Type 0} (step : W → ℕ → VbCall → Option VbReply → W → 
       (told, ran, said, peer_live left told.peer h.1 plain)
 
   -- one that was asked for frames
-  pub pull_left : (frames : ℕ) (peer : PlainPeer) (left : Conn) → ConnPulled step frames (peer_conn peer) old out left new
-      → (told : PullResult) × Ran step (peer_pulled frames peer) old told new × (out ≡ pull_out told) × (left ≡ peer_conn told.peer)
-  pull_left frames peer (conn.Client left) h = absurd h
-  pull_left frames peer (conn.Peer left) h =
+  pub pull_left : {J : Type 0} (asks : J → ℕ → (ask : Ask) → Got ask → J → Type 0) (kept held : J) (frames : ℕ) (peer : PlainPeer) (left : Conn) → ConnPulled step asks frames (peer_conn peer) old kept out left new held
+      → (told : PullResult) × RanJob step asks (peer_pulled frames peer) old kept told new held × (out ≡ pull_out told) × (left ≡ peer_conn told.peer)
+  pull_left asks kept held frames peer (conn.Client left) h = absurd h
+  pull_left asks kept held frames peer (conn.Peer left) h =
       let (told, ran, said, plain) = h.2 in
       (told, ran, said, peer_live left told.peer h.1 plain)

@@ -4,6 +4,7 @@ use Rattle.std.specs.Prelude.{◌==◌, if◌then◌else◌}
 use Rattle.std.proofs.lemmas.Bool.{eqb-true, eq-eqb}
 use Rattle.script_text.specs.declared.verb.LinkVerb.TheVariants as link_verb
 use Rattle.script_text.specs.declared.verb.Verb.TheVariants as verb
+use Rattle.vb_calls.specs.Jobs.{after_reads}
 use Rattle.vb_calls.specs.Programs.{after}
 use Rattle.vb_calls.specs.States.{States}
 use Rattle.vbucket.specs.Rows.{row_at, row_put}
@@ -11,11 +12,12 @@ use Rattle.node_core.specs.GivingUp.{GiveResult, peer_gives_up}
 use Rattle.node_core.specs.Peers.{PullResult, peer_pulled}
 use Rattle.vb_events.specs.declared.event.Cause.TheVariants as cause
 use Rattle.node_world.specs.GivesFirst.{GivesFirst, GivesNothing, PutsAlone, losing_end, losing_link, pumped_link}
-use Rattle.node_world.specs.Links.{PlainLink, link_number, peer_of, producer_node, pump_at}
+use Rattle.node_world.specs.Links.{PlainLink, LinkResult, link_number, peer_of, producer_node, pump_at}
 use Rattle.node_world.specs.Nodes.{PlainNode, refusal, with_states}
 use Rattle.node_world.specs.World.{link_outcome, verb_step, with_link}
 use Rattle.node_world.specs.Worlds.{PlainWorld, Outcome, node_outcome, with_links, with_node_at}
 use Rattle.node_world.proofs.Pumping.{posted, pump_alone, pump_puts, put_last}
+use Rattle.node_world.proofs.PullReads.{pump_is}
 use Rattle.node_world.proofs.Rows.{row_number}
 
 -- a node that was put in a world, and the others
@@ -40,7 +42,7 @@ module _ (w : PlainWorld) (number l frames : ℕ) (link : PlainLink) (producer :
   behind = (posted frames link w l there producer made gone.0 gone.1 refl).0
 
   abbrev pulled : States × PullResult
-  pulled = after (peer_pulled frames (record gone.1.peer { producer = losing_end gone.1.given gone.1.peer.producer })) behind.vbs
+  pulled = after_reads (peer_pulled frames (record gone.1.peer { producer = losing_end gone.1.given gone.1.peer.producer })) behind.shelves behind.vbs
 
   is : came ≡ put_last frames link w l there producer made gone.0 gone.1 refl pulled.0 pulled.1 refl
   is = pump_puts frames link w l there producer made gone.0 gone.1 refl pulled.0 pulled.1 refl
@@ -64,12 +66,13 @@ module _ (w : PlainWorld) (number l frames : ℕ) (link : PlainLink) (producer :
   }
 
   abbrev put_alone : States × PullResult
-  put_alone = after (peer_pulled frames (peer_of link)) producer.vbs
+  put_alone = after_reads (peer_pulled frames (peer_of link)) producer.shelves producer.vbs
 
   alone_is : GivesNothing frames link → came ≡ (with_links (with_node_at w (producer_node link) (with_states producer put_alone.0)) (row_put link_number (link_number link) (pumped_link link put_alone.1) w.links), record { events = put_alone.1.events; answer = put_alone.1.answer })
   alone_is none =
       pump_alone frames link w l there none ∙ ap (link_outcome w l producer_node (pump_at frames)) there
       ∙ ap (λ o. with_link link (node_outcome w (producer_node link) (Some link, refusal cause.UnknownNode) o (pump_at frames link))) made
+      ∙ ap (λ (x : PlainNode × LinkResult). with_link link (with_node_at w (producer_node link) x.0, x.1)) (pump_is frames link producer)
 
   pub puts_alone : GivesNothing frames link → PutsAlone w link producer frames came
   puts_alone none = record {

@@ -18,6 +18,7 @@ use Rattle.dcp_producer.specs.Pulling.{frames_put}
 use Rattle.dcp_producer.specs.Serving.{frame_answered}
 use Rattle.vb_events.specs.declared.event.Event.{Event}
 use Rattle.vb_calls.specs.declared.calls.VbCall.TheVariants as call
+use Rattle.vb_calls.specs.Jobs.{after_reads}
 use Rattle.vb_calls.specs.Programs.{Prog, Done, Call, after, bind}
 use Rattle.vb_calls.specs.States.{States, states_step}
 use Rattle.vb_calls.proofs.Readings.{after_bind}
@@ -25,9 +26,10 @@ use Rattle.node_core.specs.Clients.{ClientPulled, Handling, PlainClient, client_
 use Rattle.node_core.proofs.Handlings.{passes_frame}
 use Rattle.node_world.specs.declared.told.Told.{Told}
 use Rattle.node_world.specs.Indexers.{AnswersInOrder, AsksDcp, BeginsWith, HangsUp, PullsFrames, ToldWith, closed_each}
-use Rattle.node_world.specs.Nodes.{PlainNode, bytes_at, bytes_if, hang_at, hung_if, pull_at, pull_if, pulled}
+use Rattle.node_world.specs.Nodes.{PlainNode, bytes_at, bytes_if, hang_at, hung_if, pull_at, pull_if}
 use Rattle.node_world.specs.Worlds.{PlainWorld, Outcome, on_node}
 use Rattle.node_world.proofs.CallsMade.{leaves_so, line_is}
+use Rattle.node_world.proofs.PullReads.{client_put, pull_is, pull_read}
 use Rattle.node_world.proofs.WhoAwaits.{Opens, closes_open, passes_open}
 
 -- ---- lines and their frames
@@ -57,14 +59,14 @@ told_with who (line ∷ lines) bytes = (
 -- ---- frames of streams
 
 module _ (w : PlainWorld) (n c : ℕ) (node : PlainNode) (client : PlainClient) (there : w.nodes n ≡ Some node) (up : node.off ≡ None) (open_one : node.clients c ≡ Some client) where
-  module _ (frames : ℕ) (put : States × (Answered × Halt)) (is : after (frames_put frames (begun client.producer)) node.vbs ≡ put) where
+  module _ (frames : ℕ) (put : States × (Answered × Halt)) (is : after_reads (frames_put frames (begun client.producer)) node.shelves node.vbs ≡ put) where
     abbrev left : PlainNode × Told
-    left = pulled c node (put.0, client_pull client.session put.1)
+    left = pull_read c node (put.0, client_pull client.session put.1)
 
     pulls_as : pull_at c frames node ≡ left
     pulls_as =
-        ap (pull_if c frames node) open_one ∙ ap (λ (x : States × ClientPulled). pulled c node x) (after_bind (frames_put frames (begun client.producer)) (λ put. Done (client_pull client.session put)) node.vbs)
-        ∙ ap (λ (x : States × (Answered × Halt)). pulled c node (x.0, client_pull client.session x.1)) is
+        ap (pull_if c frames node) open_one ∙ pull_is c frames client node ∙ ap (λ (x : States × ClientPulled). pull_read c node x) (client_put frames client node.shelves node.vbs)
+        ∙ ap (λ (x : States × (Answered × Halt)). pull_read c node (x.0, client_pull client.session x.1)) is
 
     line_told : (on_node w n (pull_at c frames)).1 ≡ left.1
     line_told = ap (λ (o : Outcome). o.1) (line_is w n node there up (pull_at c frames)) ∙ ap (λ (x : PlainNode × Told). x.1) pulls_as

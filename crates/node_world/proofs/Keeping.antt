@@ -1,5 +1,5 @@
 -- a producer keeps its place, and a consumer what it dialed
-use Rattle.std.proofs.Common.{◌≡◌, ℕ, zero, suc, Bool, true, false, List, [], ◌∷◌, ◌++◌, length, map, refl, ◌∙◌, Option, Some, None}
+use Rattle.std.proofs.Common.{◌≡◌, ℕ, Bool, true, false, List, [], ◌∷◌, ◌++◌, length, map, refl, ◌∙◌, Option, Some, None}
 use Rattle.std.specs.Prelude.{◌==◌, ◌||◌, codes, if◌then◌else◌, nat_lt, Result, Ok, Err, ◌^◌, ◌-◌}
 use Rattle.std.specs.Str.{bytes_eq}
 use Rattle.std.specs.List.{list_any}
@@ -20,6 +20,7 @@ use Rattle.vb_events.specs.declared.event.Event.TheVariants as event
 use Rattle.vb_types.specs.declared.role.LogEntry.{LogEntry}
 use Rattle.vb_types.specs.declared.status.Status.{Status}
 use Rattle.vb_types.specs.declared.status.Status.TheVariants as status
+use Rattle.vb_types.specs.declared.stream.Place.{Place}
 use Rattle.vb_types.specs.declared.stream.StreamAsk.{StreamAsk}
 use Rattle.vb_calls.specs.declared.calls.VbAnswer.{VbAnswer}
 use Rattle.vb_calls.specs.declared.calls.VbAnswer.TheVariants as answer
@@ -32,11 +33,12 @@ use Rattle.vb_calls.specs.declared.journals.Wrote.{Wrote}
 use Rattle.vb_calls.specs.declared.journals.Wrote.TheVariants as wrote
 use Rattle.vb_calls.specs.Flushes.{role_job, roll_job}
 use Rattle.vb_types.specs.declared.role.Role.TheVariants as role
-use Rattle.vb_calls.specs.Jobs.{Job, Ended, Request, lift, after_job, AlwaysJob}
+use Rattle.vb_calls.specs.Jobs.{Job, Ended, Request, bind_job, lift, repeated_job, after_job, after_reads, AlwaysJob, IsRead}
 use Rattle.vb_calls.specs.Jobs.{Call as JobCall}
 use Rattle.vb_calls.specs.Shelves.{Ask, Shelves}
-use Rattle.vb_calls.proofs.JobConduct.{always_bind_job, always_each_job, always_lift, after_job_always}
-use Rattle.vb_calls.specs.Programs.{Prog, Done, Call, bind, Turn, More, Stop, repeated, go_on, after, Always, AnyReply, AnyCall}
+use Rattle.vb_calls.proofs.JobConduct.{always_bind_job, always_each_job, always_lift, always_repeated_job, after_job_always}
+use Rattle.vb_calls.proofs.JobReadings.{reads_always}
+use Rattle.vb_calls.specs.Programs.{Prog, Done, Call, Turn, More, Stop, after, Always, AnyReply, AnyCall}
 use Rattle.vb_calls.specs.States.{States}
 use Rattle.vb_calls.proofs.Conduct.{always_bind, after_always}
 use Rattle.dcp_producer.specs.declared.desk.Desk.{Desk}
@@ -46,8 +48,8 @@ use Rattle.dcp_producer.specs.declared.halt.Halt.TheVariants as halt
 use Rattle.dcp_producer.specs.declared.next_frame.NextFrame.TheVariants as next
 use Rattle.dcp_producer.specs.Frames.{Next, next_frame}
 use Rattle.dcp_producer.specs.Producers.{PlainStream, Served, begun, is_open, stream_at, without_stream}
-use Rattle.dcp_producer.specs.Serving.{bytes_acknowledged as bytes_taken_back, status_sent, open_refusal, opened_unless, control_answered, controlled, controlled_as, sized, sized_as, ask_verdict, next_stream, opens, with_asked, with_granted, stream_answered, opening_requested, refusal_requested, stream_request, once_open, closed_sent, stream_closed, log_given, log_sent, log_answered, log_requested, message_answered, row_answered, read_answered, frame_answered, heard, is_taken, response_heard, counted_by, count_answered, count_requested, acknowledged}
-use Rattle.dcp_producer.specs.Pulling.{QuietOnes, Pulling, pull_of, none_quiet, is_quiet, past_turn, stream_in_turn, came, stream_asked, turn_had, one_turn, turns_came, one_frame, pulled, frames_put}
+use Rattle.dcp_producer.specs.Serving.{bytes_acknowledged as bytes_taken_back, status_sent, open_refusal, opened_unless, control_answered, controlled, controlled_as, sized, sized_as, ask_verdict, next_stream, opens, place_of_reply, with_asked, with_granted, stream_answered, opening_requested, refusal_requested, stream_request, once_open, closed_sent, stream_closed, log_given, log_sent, log_answered, log_requested, message_answered, row_answered, read_answered, frame_answered, heard, is_taken, response_heard, counted_by, count_answered, count_requested, acknowledged}
+use Rattle.dcp_producer.specs.Pulling.{Halting, QuietOnes, Pulling, pull_of, none_quiet, is_quiet, past_turn, stream_in_turn, came, stream_asked, turn_had, one_turn, turns_came, one_frame, pulled, frames_put}
 use Rattle.takeover.specs.declared.take_over.TakeStep.{TakeStep}
 use Rattle.takeover.specs.declared.take_over.TakeStep.TheVariants.{Pend, Own}
 use Rattle.dcp_consumer.specs.declared.handshake.ConsumerStep.{ConsumerStep}
@@ -60,29 +62,16 @@ use Rattle.dcp_consumer.specs.declared.passive_stream.Passive.TheVariants as pas
 use Rattle.dcp_consumer.specs.Counting.{bytes_acknowledged, counted_bytes}
 use Rattle.dcp_consumer.specs.Machine.{over_why, ended_for, request_again, again_by, consumer_step}
 use Rattle.node_core.proofs.Dues.{due_always}
+use Rattle.node_core.proofs.ProducerLines.{next_reads}
 use Rattle.node_core.specs.Dials.{PlainDial, DialResult, heir_told, is_done_answer, is_pending, noted_for, own_result, owned, pended, role_line, state_made, state_met, adopt_result, due_requested, dial_due, untold, is_broken, is_over, with_line, over_for, granted_with, is_done, go_on_with, follower_ask, again_with, again_result, rolled_back, roll_back, taken_as, message_result, call_made, passive_made, step_made, frame_taken, frames_taken, with_left, fault_met, with_end_line, bytes_counted, rest_met, bytes_taken, dial_bytes}
 use Rattle.node_core.specs.Peers.{PlainPeer, PeerResult, PullResult, peer_result, peer_heard, peer_frames, peer_answered, pull_result, peer_pulled}
 use Rattle.node_world.specs.Links.{frame_up, frames_up, peer_given, untold_peer}
 use Rattle.node_world.specs.Nodes.{PlainNode}
 
--- nothing at all is asked of a program
-any_prog : {A : Type 0} (prog : Prog A) → Always AnyCall (λ (a : A). Unit {0}) prog
-any_prog (Done a) = tt
-any_prog (Call v call next) = (tt, λ reply formed. any_prog (next reply))
-
 -- turns that go on, or stop
 abbrev TurnHolds : {A R : Type 0} → (A → Type 0) → (R → Type 0) → Turn A R → Type 0
 TurnHolds goes stops (More a) = goes a
 TurnHolds goes stops (Stop r) = stops r
-
-module _ {A R : Type 0} (goes : A → Type 0) (stops : R → Type 0) (f : A → Prog (Turn A R)) (keep : (a : A) → goes a → Always AnyCall (TurnHolds goes stops) (f a)) where
-  go_keeps : (t : Turn A R) → TurnHolds goes stops t → Always AnyCall (TurnHolds goes stops) (go_on f t)
-  go_keeps (More a) e = keep a e
-  go_keeps (Stop r) e = e
-
-  turns_keep : (n : ℕ) (a : A) → goes a → Always AnyCall (TurnHolds goes stops) (repeated n f a)
-  turns_keep zero a e = e
-  turns_keep (suc n) a e = always_bind AnyReply AnyCall (TurnHolds goes stops) (TurnHolds goes stops) (repeated n f a) (go_on f) (turns_keep n a e) go_keeps
 
 -- a producer's place
 module _ (desk : Desk) where
@@ -96,10 +85,10 @@ module _ (desk : Desk) where
   unfolding status_sent
   status_at f st s e = e
 
-  granted_at : (f : Frame) (ask : StreamAsk) (s : Served) (id : ℕ) (said : AskAnswer) → At s → At (record s { end = with_granted (with_asked s.end) id f ask said })
-  granted_at f ask s id ask_answer.Go e = e
-  granted_at f ask s id (ask_answer.Roll to) e = e
-  granted_at f ask s id (ask_answer.Refuse code) e = e
+  granted_at : (f : Frame) (ask : StreamAsk) (s : Served) (id : ℕ) (from : Place) (said : AskAnswer) → At s → At (record s { end = with_granted (with_asked s.end) id f ask from said })
+  granted_at f ask s id from ask_answer.Go e = e
+  granted_at f ask s id from (ask_answer.Roll to) e = e
+  granted_at f ask s id from (ask_answer.Refuse code) e = e
 
   open_at : (o : Option Status) (f : Frame) (s : Served) → At s → At (opened_unless o f s)
   unfolding status_sent
@@ -136,7 +125,7 @@ module _ (desk : Desk) where
   request_keeps f ask s e = by (opens s.end f.vb_or_status ask)
     where
       by : (b : Bool) → Keeps (if b then opening_requested f ask s else refusal_requested f ask s)
-      by true = (tt, λ reply formed. granted_at f ask s (next_stream s.end) (ask_verdict reply) e)
+      by true = (tt, λ reply formed. granted_at f ask s (next_stream s.end) (place_of_reply reply) (ask_verdict reply) e)
       by false = (tt, λ reply formed. e)
 
   -- what is answered once the connection is open
@@ -223,8 +212,11 @@ module _ (desk : Desk) where
   abbrev Pulls : Pulling → Type 0
   Pulls p = At p.served
 
-  abbrev Turned : Turn Pulling Pulling → Type 0
-  Turned turn = TurnHolds Pulls Pulls turn
+  abbrev Went : Halting → Type 0
+  Went (p, halted) = Pulls p
+
+  abbrev Turned : Turn Pulling Halting → Type 0
+  Turned turn = TurnHolds Pulls Went turn
 
   abbrev Halted : Served × Halt → Type 0
   Halted put = At put.0
@@ -236,45 +228,51 @@ module _ (desk : Desk) where
   came_at s q (next.Put m line, stream) e = e
   came_at s q (next.End reason, stream) e = e
   came_at s q (next.Quiet waits, stream) e = e
+  came_at s q (next.Disk, stream) e = e
 
-  had_keeps : (s : Served) (q : QuietOnes) (o : Option PlainStream) → At s → Always AnyCall Turned (turn_had s q o)
+  -- a job that reads alone comes to such an answer
+  abbrev Reads : {A : Type 0} → (A → Type 0) → Job A → Type 0
+  Reads answers job = AlwaysJob AnyReply AnyCall IsRead answers job
+
+  had_keeps : (s : Served) (q : QuietOnes) (o : Option PlainStream) → At s → Reads Turned (turn_had s q o)
   had_keeps s q None e = e
   had_keeps s q (Some stream) e = by (is_quiet stream.id q)
     where
-      by : (b : Bool) → Always AnyCall Turned (if b then Done (More (pull_of s q)) else stream_asked s q stream)
+      by : (b : Bool) → Reads Turned (if b then Ended (More (pull_of s q)) else stream_asked s q stream)
       by true = e
       by false =
-          always_bind AnyReply AnyCall (λ (next : Next). Unit {0}) Turned (next_frame s.end.desk.stream stream) (λ next. Done (came s q next)) (any_prog (next_frame s.end.desk.stream stream))
+          always_bind_job AnyReply AnyCall IsRead (λ (next : Next). Unit {0}) Turned (next_frame s.end.desk.stream stream) (λ next. Ended (came s q next)) (next_reads s.end.desk.stream stream)
           (λ next any. came_at s q next e)
 
-  turn_keeps : (p : Pulling) → Pulls p → Always AnyCall Turned (one_turn p)
+  turn_keeps : (p : Pulling) → Pulls p → Reads Turned (one_turn p)
   unfolding one_turn
   turn_keeps p e = had_keeps (past_turn p.served) p.quiet (stream_in_turn p.served.end) e
 
-  turns_at : (turns : Turn Pulling Pulling) → Turned turns → Framed (turns_came turns)
+  turns_at : (turns : Turn Pulling Halting) → Turned turns → Framed (turns_came turns)
   turns_at (More p) e = e
-  turns_at (Stop p) e = e
+  turns_at (Stop (p, None)) e = e
+  turns_at (Stop (p, Some halted)) e = e
 
-  put_keeps : (p : Pulling) → Pulls p → Always AnyCall Framed (one_frame p)
+  put_keeps : (p : Pulling) → Pulls p → Reads Framed (one_frame p)
   unfolding one_frame
   put_keeps p e = by _
     where
-      turns : Prog (Turn Pulling Pulling)
-      turns = repeated (length p.served.end.streams) one_turn p
+      turns : Job (Turn Pulling Halting)
+      turns = repeated_job (length p.served.end.streams) one_turn p
 
-      by : (b : Bool) → Always AnyCall Framed (if b then bind turns (λ turns. Done (turns_came turns)) else Done (Stop (p.served, halt.Full)))
+      by : (b : Bool) → Reads Framed (if b then bind_job turns (λ turns. Ended (turns_came turns)) else Ended (Stop (p.served, halt.Full)))
       by true =
-          always_bind AnyReply AnyCall Turned Framed turns (λ turns. Done (turns_came turns)) (turns_keep Pulls Pulls one_turn turn_keeps (length p.served.end.streams) p e) turns_at
+          always_bind_job AnyReply AnyCall IsRead Turned Framed turns (λ turns. Ended (turns_came turns)) (always_repeated_job AnyReply AnyCall IsRead Turned one_turn turn_keeps (length p.served.end.streams) p e) turns_at
       by false = e
 
-  ends_keep : (t : Turn Pulling (Served × Halt)) → Framed t → Always AnyCall Halted (pulled t)
+  ends_keep : (t : Turn Pulling (Served × Halt)) → Framed t → Reads Halted (pulled t)
   ends_keep (More p) e = e
   ends_keep (Stop put) e = e
 
-  pub all_keep : (n : ℕ) (s : Served) → At s → Always AnyCall Halted (frames_put n s)
+  pub all_keep : (n : ℕ) (s : Served) → At s → AlwaysJob AnyReply AnyCall IsRead Halted (frames_put n s)
   unfolding frames_put
   all_keep n s e =
-      always_bind AnyReply AnyCall Framed Halted (repeated n one_frame (pull_of s none_quiet)) pulled (turns_keep Pulls Halted one_frame put_keeps n (pull_of s none_quiet) e) ends_keep
+      always_bind_job AnyReply AnyCall IsRead Framed Halted (repeated_job n one_frame (pull_of s none_quiet)) pulled (always_repeated_job AnyReply AnyCall IsRead Framed one_frame put_keeps n (pull_of s none_quiet) e) ends_keep
 
 -- so it is after a frame was answered, and after frames were put
 pub answered_desk : (f : Frame) (peer : PlainPeer) (states : States) → (after (peer_answered f peer) states).1.peer.producer.desk ≡ peer.producer.desk
@@ -284,11 +282,11 @@ answered_desk f peer states =
     (always_bind AnyReply AnyCall (At desk) (λ (t : PeerResult). t.peer.producer.desk ≡ desk) (frame_answered f (begun peer.producer)) (λ s. Done (peer_result peer.heard s))
     (frame_keeps desk f (begun peer.producer) refl) (λ s e. e))
 
-pub pulled_desk : (frames : ℕ) (peer : PlainPeer) (states : States) → (after (peer_pulled frames peer) states).1.peer.producer.desk ≡ peer.producer.desk
-pulled_desk frames peer states =
+pub pulled_desk : (frames : ℕ) (peer : PlainPeer) (shelves : Shelves) (states : States) → (after_reads (peer_pulled frames peer) shelves states).1.peer.producer.desk ≡ peer.producer.desk
+pulled_desk frames peer shelves states =
     let desk = peer.producer.desk in
-    after_always AnyCall (λ (t : PullResult). t.peer.producer.desk ≡ desk) (peer_pulled frames peer) states
-    (always_bind AnyReply AnyCall (Halted desk) (λ (t : PullResult). t.peer.producer.desk ≡ desk) (frames_put frames (begun peer.producer)) (λ put. Done (pull_result peer.heard put))
+    reads_always AnyCall IsRead (λ (t : PullResult). t.peer.producer.desk ≡ desk) (peer_pulled frames peer) shelves states
+    (always_bind_job AnyReply AnyCall IsRead (Halted desk) (λ (t : PullResult). t.peer.producer.desk ≡ desk) (frames_put frames (begun peer.producer)) (λ put. Ended (pull_result peer.heard put))
     (all_keep desk frames (begun peer.producer) refl) (λ put e. e))
 
 -- so it is after bytes of its peer, too

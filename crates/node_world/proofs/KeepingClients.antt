@@ -12,10 +12,14 @@ use Rattle.dcp_producer.specs.Producers.{PlainProducer, Served as Answered, begu
 use Rattle.dcp_producer.specs.Pulling.{frames_put}
 use Rattle.dcp_producer.specs.Serving.{frame_answered}
 use Rattle.vb_events.specs.declared.event.Event.{Event}
+use Rattle.vb_calls.specs.Jobs.{Ended, after_reads, IsRead}
+use Rattle.vb_calls.specs.Shelves.{Shelves}
 use Rattle.vb_calls.specs.Programs.{Prog, Done, Call, after, Always, AnyCall, AnyReply}
 use Rattle.vb_calls.specs.States.{States}
 use Rattle.vb_calls.specs.declared.calls.Resolved.{Resolved}
-use Rattle.vb_calls.proofs.Conduct.{after_always, always_bind, always_so}
+use Rattle.vb_calls.proofs.Conduct.{after_always, always_so}
+use Rattle.vb_calls.proofs.JobConduct.{always_bind_job}
+use Rattle.vb_calls.proofs.JobReadings.{reads_always}
 use Rattle.node_core.specs.Clients.{ClientPulled, Handling, PlainClient, client_fed, client_posted, client_pull, client_pulled, went_on}
 use Rattle.node_core.proofs.Handlings.{answered, fed_keeps, posted_keeps}
 use Rattle.node_world.proofs.Keeping.{all_keep, frame_keeps}
@@ -59,8 +63,8 @@ module _ (who : Who) (desk : Desk) where
       (λ h e p. always_any (λ none. Keeps h) (end_closed h.client.producer) (λ none. p)) r client (record { is = place.is; at = place.at }) (λ a e. record { is = place.is; at = place.at }))
 
   -- after frames were put
-  pub pulled_place : (frames : ℕ) (client : PlainClient) (states : States) → Place client → Place (after (client_pulled frames client) states).1.client
-  pulled_place frames client states place =
-      after_always AnyCall (λ (t : ClientPulled). Place t.client) (client_pulled frames client) states
-      (always_bind AnyReply AnyCall (λ (put : Answered × Halt). put.0.end.desk ≡ desk) (λ (t : ClientPulled). Place t.client) (frames_put frames (begun client.producer)) (λ put. Done (client_pull client.session put))
+  pub pulled_place : (frames : ℕ) (client : PlainClient) (shelves : Shelves) (states : States) → Place client → Place (after_reads (client_pulled frames client) shelves states).1.client
+  pulled_place frames client shelves states place =
+      reads_always AnyCall IsRead (λ (t : ClientPulled). Place t.client) (client_pulled frames client) shelves states
+      (always_bind_job AnyReply AnyCall IsRead (λ (put : Answered × Halt). put.0.end.desk ≡ desk) (λ (t : ClientPulled). Place t.client) (frames_put frames (begun client.producer)) (λ put. Ended (client_pull client.session put))
       (all_keep desk frames (begun client.producer) place.at) (λ put at. record { is = place.is; at = at }))

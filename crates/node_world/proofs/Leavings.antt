@@ -8,17 +8,16 @@ use Rattle.vb_disk.specs.declared.made.Outcome.{Outcome as Left}
 use Rattle.vb_events.specs.declared.event.Cause.{Cause}
 use Rattle.vb_events.specs.declared.event.Cause.TheVariants as cause
 use Rattle.vb_events.specs.declared.event.EndReason.{EndReason}
-use Rattle.vb_calls.specs.Programs.{after, Done}
+use Rattle.vb_calls.specs.Jobs.{after_reads}
+use Rattle.vb_calls.specs.Shelves.{Shelves}
+use Rattle.vb_calls.specs.Programs.{after}
 use Rattle.vb_calls.specs.declared.calls.Resolved.{Resolved}
 use Rattle.vbucket.specs.Rows.{row_at, row_out, row_put}
 use Rattle.dcp_consumer.specs.Machine.{over_why}
 use Rattle.node_core.specs.Calls.{left_open}
-use Rattle.node_core.specs.Clients.{PlainClient, ClientPulled, client_fed, client_posted, client_pull, client_pulled, new_client}
+use Rattle.node_core.specs.Clients.{PlainClient, ClientPulled, client_fed, client_posted, client_pulled, new_client}
 use Rattle.client_session.specs.Serving.{PlainSession}
-use Rattle.dcp_producer.specs.Producers.{begun}
-use Rattle.dcp_producer.specs.Pulling.{frames_put}
 use Rattle.vb_calls.specs.States.{States}
-use Rattle.vb_calls.proofs.Readings.{after_bind}
 use Rattle.node_world.specs.declared.script_node.TheConstants.{MAX_CLIENTS}
 use Rattle.node_world.specs.declared.told.Told.{Told}
 use Rattle.node_world.specs.BytesMoved.{given_down}
@@ -31,6 +30,7 @@ use Rattle.node_world.specs.World.{ask_in, base_of, client_verb_at, cut_outcome,
 use Rattle.node_world.specs.Worlds.{PlainWorld, Outcome, node_if, with_links, with_node_at}
 use Rattle.node_world.proofs.BytesMoved.{downs}
 use Rattle.node_world.proofs.CallsMade.{line_is}
+use Rattle.node_world.proofs.PullReads.{client_put, pull_is}
 
 -- ---- links
 
@@ -111,8 +111,8 @@ new_is : (t s : PlainClient) → t.session.closed ≡ false → Some t ≡ Some 
 new_is t s live e = let same : t ≡ s = cc in ap (λ (x : PlainClient). x.session.closed) (sym same) ∙ live
 
 -- frames that are put leave the session
-pulled_session : (frames : ℕ) (client : PlainClient) (states : States) → (after (client_pulled frames client) states).1.client.session ≡ client.session
-pulled_session frames client states = ap (λ (x : States × ClientPulled). x.1.client.session) (after_bind (frames_put frames (begun client.producer)) (λ put. Done (client_pull client.session put)) states)
+pulled_session : (frames : ℕ) (client : PlainClient) (shelves : Shelves) (states : States) → (after_reads (client_pulled frames client) shelves states).1.client.session ≡ client.session
+pulled_session frames client shelves states = ap (λ (x : States × ClientPulled). x.1.client.session) (client_put frames client shelves states)
 
 client_is_open : (n number c : ℕ) (what : ClientVerb) (node : PlainNode) → NoneIsClosed node → NoneIsClosed (client_verb_at n number c what node).0
 client_is_open n number c client_verb.Open node none =
@@ -133,8 +133,9 @@ client_is_open n number c (client_verb.Pull frames) node none = by (node.clients
     by : (o : Option PlainClient) → node.clients c ≡ o → NoneIsClosed (pull_if c frames node o).0
     by None e = none
     by (Some client) e =
-        let left : PlainClient = (after (client_pulled frames client) node.vbs).1.client in
-        put_open node c (Some left) none (λ s is. new_is left s (ap (λ (x : PlainSession). x.closed) (pulled_session frames client node.vbs) ∙ none c client e) is)
+        let left : PlainClient = (after_reads (client_pulled frames client) node.shelves node.vbs).1.client in
+        subst (λ (x : PlainNode × Told). NoneIsClosed x.0) (sym (pull_is c frames client node))
+        (put_open node c (Some left) none (λ s is. new_is left s (ap (λ (x : PlainSession). x.closed) (pulled_session frames client node.shelves node.vbs) ∙ none c client e) is))
 
 posts_open : (rs : List Resolved) (node : PlainNode) → NoneIsClosed node → NoneIsClosed (all_posted rs node).0
 posts_open [] node none = none

@@ -13,10 +13,11 @@ use Rattle.vb_types.specs.declared.status.Status.TheVariants as status
 use Rattle.vb_types.specs.declared.stream.StreamAsk.{StreamAsk}
 use Rattle.vb_calls.specs.declared.calls.VbAnswer.TheVariants as vb_answer
 use Rattle.vb_calls.specs.Following.{is_follower}
-use Rattle.vb_calls.specs.Programs.{Done, after}
+use Rattle.vb_calls.specs.Jobs.{after_reads}
+use Rattle.vb_calls.specs.Programs.{after}
+use Rattle.vb_calls.specs.Shelves.{Shelves}
 use Rattle.vb_calls.specs.States.{States}
 use Rattle.vb_calls.specs.State.{Plain, quiet_reply, refusal_reply}
-use Rattle.vb_calls.proofs.Readings.{after_bind}
 use Rattle.vb_disk.specs.declared.fuse.Fuse.{Fuse}
 use Rattle.vb_disk.specs.declared.fuse.Fuse.TheVariants as fuse
 use Rattle.vbucket.specs.Rows.{row_at}
@@ -24,7 +25,7 @@ use Rattle.dcp_producer.specs.Dropping.{cursor_dropped}
 use Rattle.dcp_producer.specs.Producers.{begun}
 use Rattle.dcp_producer.specs.Pulling.{why_of, frames_put}
 use Rattle.node_core.specs.Calls.{named_ask}
-use Rattle.node_core.specs.Peers.{PlainPeer, PullResult, peer_pulled, pull_result}
+use Rattle.node_core.specs.Peers.{PlainPeer, PullResult, peer_pulled}
 use Rattle.node_world.specs.declared.arm.Fired.{Fired}
 use Rattle.node_world.specs.declared.arm.Fired.TheVariants as fired
 use Rattle.node_world.specs.Arms.{fired_by}
@@ -36,6 +37,7 @@ use Rattle.node_world.specs.Power.{after_broken, is_broken_answer}
 use Rattle.node_world.specs.World.{ask_in, cut_outcome, down_in, down_outcome, down_step, link_step, link_outcome, on_link, pump_outcome, with_dialed, with_link}
 use Rattle.node_world.specs.Worlds.{PlainWorld, Outcome, arm_in, is_off, node_outcome, vb_in, with_links}
 use Rattle.node_world.proofs.GivesFirst.{gives_first}
+use Rattle.node_world.proofs.PullReads.{peer_put}
 
 -- the answer of a line that the first of five causes that holds refuses
 abbrev five : Bool → Bool → Bool → Bool → Bool → Answer
@@ -239,7 +241,7 @@ module _ (w : PlainWorld) (l : ℕ) (link : PlainLink) (producer node : PlainNod
   at_link = record {
     up = λ wanted number why e. let told : answer.Number (moved_len wanted link.up) ≡ answer.No why = sym (at_end_of producer_node (up_at wanted) producer from) ∙ e in cc;
     down = λ wanted number why e. refused_as wanted why e;
-    pump = λ frames number why e. let g = gives_first w number l frames link producer add_link from in pumped frames (end_of g) g.posted.vbs why (ap (λ (x : States × PullResult). x.1.answer) g.puts ∙ sym g.said ∙ e);
+    pump = λ frames number why e. let g = gives_first w number l frames link producer add_link from in pumped frames (end_of g) g.posted.shelves g.posted.vbs why (ap (λ (x : States × PullResult). x.1.answer) g.puts ∙ sym g.said ∙ e);
     drop = ((after (cursor_dropped link.consumer.dialed.vb link.server) producer.vbs).1, λ number. at_end_of producer_node drop_at producer from);
     cut = λ number. ap (λ o. (cut_outcome w o).1.answer) add_link;
   }
@@ -247,9 +249,9 @@ module _ (w : PlainWorld) (l : ℕ) (link : PlainLink) (producer node : PlainNod
       end_of : {frames : ℕ} {came : Outcome} → GivesFirst w link producer frames came → PlainPeer
       end_of g = record g.gave.peer { producer = losing_end g.gave.given g.gave.peer.producer }
 
-      pumped : (frames : ℕ) (peer : PlainPeer) (states : States) (why : Cause) → (after (peer_pulled frames peer) states).1.answer ≡ answer.No why → ⊥
-      pumped frames peer states why e =
-          let put = after (frames_put frames (begun peer.producer)) states in
+      pumped : (frames : ℕ) (peer : PlainPeer) (shelves : Shelves) (states : States) (why : Cause) → (after_reads (peer_pulled frames peer) shelves states).1.answer ≡ answer.No why → ⊥
+      pumped frames peer shelves states why e =
+          let put = after_reads (frames_put frames (begun peer.producer)) shelves states in
           let told : answer.Pulled put.1.0.count (why_of put.1.1) ≡ answer.No why =
-          sym (ap (λ (x : States × PullResult). x.1.answer) (after_bind (frames_put frames (begun peer.producer)) (λ p. Done (pull_result peer.heard p)) states)) ∙ e in
+          sym (ap (λ (x : States × PullResult). x.1.answer) (peer_put frames peer shelves states)) ∙ e in
           cc

@@ -8,15 +8,16 @@ use Rattle.vb_events.specs.declared.event.EndReason.{EndReason}
 use Rattle.vb_events.specs.declared.event.EndReason.TheVariants as reason
 use Rattle.vb_calls.specs.Jobs.{after_job}
 use Rattle.vb_calls.specs.Programs.{after}
+use Rattle.vb_calls.specs.Shelves.{Shelves}
+use Rattle.vb_calls.specs.States.{States}
 use Rattle.dcp_consumer.specs.declared.handshake.Dialed.{Dialed}
 use Rattle.dcp_consumer.specs.Machine.{over_why}
-use Rattle.dcp_producer.specs.Dropping.{cursor_dropped}
 use Rattle.dcp_producer.specs.declared.desk.Desk.{Desk}
 use Rattle.node_core.specs.declared.out.NodeOut.{NodeOut}
 use Rattle.node_core.specs.Dials.{DialResult, dial_bytes}
 use Rattle.node_core.specs.Outcomes.{live_dial}
 use Rattle.node_core.specs.Outs.{dial_answer}
-use Rattle.node_core.specs.Peers.{PlainPeer, peer_pulled}
+use Rattle.node_core.specs.Peers.{PlainPeer, PullResult, peer_pulled}
 use Rattle.node_world.specs.declared.link.Link.{Link}
 use Rattle.script_text.specs.declared.verb.LinkVerb.{LinkVerb}
 use Rattle.script_text.specs.declared.verb.LinkVerb.TheVariants as link_verb
@@ -32,6 +33,7 @@ use Rattle.node_world.specs.Nodes.{PlainNode, refusal}
 use Rattle.node_world.specs.Stands.{node_number, NodeMatch, NodesStand, live_peer, Ends, ends_of, LinkStands}
 use Rattle.node_world.specs.Worlds.{PlainWorld, with_node_if}
 use Rattle.node_world.proofs.Keeping.{given_desk, pulled_desk, fed_dialed}
+use Rattle.node_world.proofs.PullReads.{peer_job}
 use Rattle.node_world.proofs.Places.{no_peer, no_dial, plain_at, peer_here, dial_here, step_stands, same_stands, if_stands, peers_stay, dials_stay, peer_put, peers_but, dial_put, dials_but}
 
 -- a link keeps its keys
@@ -136,12 +138,12 @@ module _ (nodes : List ScriptNode) (at : ℕ) (old new : ScriptNode) (link : Lin
     pump_one : (plain : PlainLink) → LinkStands (ends_of nodes) link plain → (node : PlainNode) → NodeMatch old node → Went plain (out_told out) pumped (pump_at frames plain node)
     pump_one plain ends node alike =
         let (stands, said, puts) = pulled node (peer_of plain) alike (has_peer plain ends) in
-        let told = (after (peer_pulled frames (peer_of plain)) node.vbs).1 in (
+        let told = (after_job (peer_pulled frames (peer_of plain)) node.vbs node.shelves).1 in (
           stands,
           ap out_told said,
           (
             refl,
-            made_stand (ends_of nodes) (ends_of nodes') link plain told.peer link.up plain.up down (plain.down ++ told.out) (pulled_desk frames (peer_of plain) node.vbs)
+            made_stand (ends_of nodes) (ends_of nodes') link plain told.peer link.up plain.up down (plain.down ++ told.out) (ap (λ (x : (States × Shelves) × PullResult). x.1.peer.producer.desk) (peer_job frames (peer_of plain) node.vbs node.shelves) ∙ pulled_desk frames (peer_of plain) node.shelves node.vbs)
                 (peer_put nodes link.producer at old new placed is puts.number link.conn _ puts) (dials_stay nodes link.producer at old new placed is puts.number puts.dials link.node link.vb)
                 ends.up (down_is ∙ (λ i. ends.down i ++ (said i).out)) ends,
           ),

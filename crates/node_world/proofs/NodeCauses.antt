@@ -16,7 +16,7 @@ use Rattle.vb_types.specs.declared.role.Role.TheVariants as role
 use Rattle.vb_types.specs.declared.status.Status.TheVariants as status
 use Rattle.vb_calls.specs.declared.calls.VbCall.TheVariants as call
 use Rattle.vb_calls.specs.declared.calls.VbReply.{VbReply}
-use Rattle.vb_calls.specs.Jobs.{after_job}
+use Rattle.vb_calls.specs.Jobs.{after_job, after_reads}
 use Rattle.vb_calls.specs.Flushes.{is_refusal, log_of_reply, role_of_call, wrote_of}
 use Rattle.vb_calls.specs.Shelves.{Append, Shelf, Shelves, shelves_step}
 use Rattle.vb_calls.specs.Following.{log_lacks}
@@ -29,11 +29,9 @@ use Rattle.vb_disk.specs.declared.fuse.Fuse.{Fuse}
 use Rattle.node_core.specs.declared.admin.AdminCall.{AdminCall}
 use Rattle.node_core.specs.declared.admin.AdminCall.TheVariants as admin
 use Rattle.node_core.specs.Admin.{AdminResult, admin_call, admin_job, admin_refused, admin_result, noted_answer}
-use Rattle.node_core.specs.Clients.{PlainClient, ClientPulled, client_pull, client_pulled, new_client}
+use Rattle.node_core.specs.Clients.{PlainClient, ClientPulled, new_client}
 use Rattle.dcp_producer.specs.Producers.{begun}
 use Rattle.dcp_producer.specs.Pulling.{frames_put, why_of}
-use Rattle.vb_calls.specs.Programs.{Done, after}
-use Rattle.vb_calls.proofs.Readings.{after_bind}
 use Rattle.node_world.proofs.ClientsTold.{told_world}
 use Rattle.node_world.specs.declared.arm.Fired.TheVariants as fired
 use Rattle.node_world.specs.declared.told.Told.{Told}
@@ -51,6 +49,7 @@ use Rattle.node_world.proofs.AfterPosts.{posted_answer, posted_arm}
 use Rattle.node_world.proofs.ChainCauses.{chain_bad, chain_idle, chain_is_set, due_answer, may_join, no_chain, no_tick, own_member, tick_idle, ticks, too_long, twice_member}
 use Rattle.node_world.proofs.FlushLines.{part_answer, flush_arm, no_flush, no_shelf, flush_is, out_refused, saved_kept, saved_ok, taken_count, unsaved_refused, untaken_kept, untaken_refused, done_count}
 use Rattle.node_world.proofs.Promoting.{active_is}
+use Rattle.node_world.proofs.PullReads.{client_put, pull_is}
 use Rattle.node_world.proofs.RoleJobs.{turn_by, noted_by, came_to, came_if, turn_is, called_quiet, noted_well}
 use Rattle.node_world.proofs.Shelved.{shelf_here}
 use Rattle.node_world.proofs.Unfired.{append_burns, append_stands, left_alone, left_burnt, left_whole, made_as, over_is, refused_armed, running, running_armed, running_refused, same_fuse, stood_passed, unfired}
@@ -200,8 +199,8 @@ module _ (w : PlainWorld) (n : ℕ) (node : PlainNode) (there : w.nodes n ≡ So
   fed_bytes : (c : ℕ) (bytes : List ℕ) (o : Option PlainClient) → node.clients c ≡ o → (on_node w n (bytes_at c bytes)).1.answer ≡ (bytes_if c bytes node o).1.answer
   fed_bytes c bytes o e = running w n node there up (bytes_at c bytes) ∙ ap (λ x. (bytes_if c bytes node x).1.answer) e
 
-  counted : (frames : ℕ) (client : PlainClient) → let put = (after (frames_put frames (begun client.producer)) node.vbs).1 in (after (client_pulled frames client) node.vbs).1.answer ≡ answer.Pulled put.0.count (why_of put.1)
-  counted frames client = ap (λ (x : States × ClientPulled). x.1.answer) (after_bind (frames_put frames (begun client.producer)) (λ put. Done (client_pull client.session put)) node.vbs)
+  counted : (c frames : ℕ) (client : PlainClient) → let put = (after_reads (frames_put frames (begun client.producer)) node.shelves node.vbs).1 in (pull_if c frames node (Some client)).1.answer ≡ answer.Pulled put.0.count (why_of put.1)
+  counted c frames client = ap (λ (x : PlainNode × Told). x.1.answer) (pull_is c frames client node) ∙ ap (λ (x : States × ClientPulled). x.1.answer) (client_put frames client node.shelves node.vbs)
 
   pub at_node : AtNode w n node
   at_node = record {
@@ -232,7 +231,7 @@ module _ (w : PlainWorld) (n : ℕ) (node : PlainNode) (there : w.nodes n ≡ So
     client_is_open = λ c client e number. called (base_of number) c (Some client) e;
     bytes = λ c bytes client e number. fed_bytes c bytes (Some client) e;
     hang = λ c client e number. hung c (Some client) e;
-    pull = λ c frames client e. let put = (after (frames_put frames (begun client.producer)) node.vbs).1 in (put.0.count, why_of put.1, λ number. pulled_frames c frames (Some client) e ∙ counted frames client);
+    pull = λ c frames client e. let put = (after_reads (frames_put frames (begun client.producer)) node.shelves node.vbs).1 in (put.0.count, why_of put.1, λ number. pulled_frames c frames (Some client) e ∙ counted c frames client);
   }
 
 -- which roles are not this one

@@ -12,6 +12,8 @@ use Rattle.mcbp_kv.specs.declared.request.KvRequest.TheVariants as request
 use Rattle.vb_events.specs.declared.event.Event.TheVariants as event
 use Rattle.vb_types.specs.declared.status.Status.{Status}
 use Rattle.vb_types.specs.declared.status.Status.TheVariants as status
+use Rattle.vb_calls.specs.Jobs.{after_reads}
+use Rattle.vb_calls.specs.Shelves.{Shelves}
 use Rattle.vb_calls.specs.Programs.{Prog, Done, after}
 use Rattle.vb_calls.specs.States.{States}
 use Rattle.vb_calls.specs.declared.calls.Resolution.{Resolution}
@@ -21,21 +23,19 @@ use Rattle.vb_calls.specs.declared.calls.VbAnswer.TheVariants as answer
 use Rattle.vb_calls.specs.declared.calls.VbCall.{VbCall}
 use Rattle.vb_calls.specs.declared.calls.VbCall.TheVariants as call
 use Rattle.vb_calls.specs.declared.calls.VbReply.{VbReply}
-use Rattle.vb_calls.proofs.Readings.{after_bind}
 use Rattle.client_session.specs.declared.session.Awaited.{Awaited}
 use Rattle.client_session.specs.Serving.{PlainSession, Served, MOST_DURABLE, answered_or_awaited, asked, awaited_by, awaits, deadline_of, durable_answered, durable_called, durable_replied, frame_handled, handed, is_dcp, next_waiter, outcome_of, refused, request_handled, told, with_lines, with_used}
 use Rattle.client_session.proofs.Conduct.{either}
 use Rattle.client_session.proofs.Keeping.{front_of}
-use Rattle.dcp_producer.specs.Producers.{begun}
-use Rattle.dcp_producer.specs.Pulling.{frames_put}
 use Rattle.node_core.specs.Calls.{left_open}
-use Rattle.node_core.specs.Clients.{PlainClient, Handling, client_ended, client_fed, client_posted, client_pull, client_pulled}
+use Rattle.node_core.specs.Clients.{ClientPulled, PlainClient, Handling, client_ended, client_fed, client_posted, client_pulled}
 use Rattle.node_core.specs.Outcomes.{value_at}
 use Rattle.node_core.proofs.Handlings.{fed_goes, posted_goes}
 use Rattle.node_world.specs.declared.script_node.ScriptNode.{ScriptNode}
 use Rattle.node_world.specs.Ends.{clients_ended}
 use Rattle.node_world.specs.Nodes.{PlainNode, awaits_in, with_conn}
 use Rattle.node_world.specs.Stands.{BaseStands, BasesStand, IsOfBase, NodeMatch}
+use Rattle.node_world.proofs.PullReads.{client_put}
 
 -- ---- what a session does
 
@@ -113,9 +113,8 @@ module _ (base : ℕ) where
       posted_goes Came clock (λ before producer f states s first p. front_goes states clock f s p) (λ before producer fault states s first p. record { own = p.own; waits = p.waits }) (λ f states h e p. p)
       (λ states h e p. p) r client states of (λ a e. free_of (record client.session { awaited = None }) of.own refl)
 
-  pub pulled_of : (frames : ℕ) (client : PlainClient) (states : States) → IsOfBase base client.session → IsOfBase base (after (client_pulled frames client) states).1.client.session
-  pulled_of frames client states of =
-      subst (λ x. IsOfBase base x.1.client.session) (sym (after_bind (frames_put frames (begun client.producer)) (λ put. Done (client_pull client.session put)) states)) of
+  pub pulled_of : (frames : ℕ) (client : PlainClient) (shelves : Shelves) (states : States) → IsOfBase base client.session → IsOfBase base (after_reads (client_pulled frames client) shelves states).1.client.session
+  pulled_of frames client shelves states of = subst (λ (x : States × ClientPulled). IsOfBase base x.1.client.session) (sym (client_put frames client shelves states)) of
 
 -- ---- the bases that are kept
 

@@ -99,14 +99,15 @@ module _ (old : ScriptNode) (key : ℕ) (out : NodeOut) (node : MemNode) where
       )
 
   -- puts frames of its streams
-  pub pulls_peer : (frames : ℕ) → PulledAt (alone_step SlotsStand) frames key (get old.node.conns key) old.node out node → PullsPeer key frames old out (inside old node)
+  pub pulls_peer : (frames : ℕ) → PulledAt (alone_step SlotsStand) MemAsks frames key (get old.node.conns key) old.node out node → PullsPeer key frames old out (inside old node)
   pulls_peer frames went plain peer stands has =
       let is = is_peer peer has in
-      let pulled : Pulled (alone_step SlotsStand) frames key (peer_conn peer) old.node out node = subst (λ o. PulledAt (alone_step SlotsStand) frames key o old.node out node) is went in
-      let (told, ran, said, left) = pull_left (alone_step SlotsStand) old.node.vbs node.vbs out frames peer pulled.left pulled.pulled in
-      let known = alone_after SlotsStand (peer_pulled frames peer) old.node.vbs told node.vbs ran plain.vbs stands.slots in
+      let pulled : Pulled (alone_step SlotsStand) MemAsks frames key (peer_conn peer) old.node out node = subst (λ o. PulledAt (alone_step SlotsStand) MemAsks frames key o old.node out node) is went in
+      let (told, ran, said, left) = pull_left (alone_step SlotsStand) old.node.vbs node.vbs out MemAsks old.node.disks node.disks frames peer pulled.left pulled.pulled in
+      let kept = (after_job (peer_pulled frames peer) plain.vbs plain.shelves).0 in
+      let known = known_job (peer_pulled frames peer) old.node told node ran plain.vbs stands.slots plain.shelves stands.shelves in
       let put = puts old key (Some pulled.left) node pulled.conns (ap (λ (x : MemNode). x.number) pulled.rest) (ap (λ (x : MemNode). x.dials) pulled.rest) in (
-        with_slots old node plain (after (peer_pulled frames peer) plain.vbs).0 known.1 (ap (λ (x : MemNode). x.disks) pulled.rest) (clients_stay old key (Some pulled.left) node pulled.conns (ap (λ c. client_part (Some c)) left) (ap client_part is)) (off_up old (inside old node) plain.off refl (peer_is_up old plain.off key (live_peer peer) has stands.off) stands.off) stands,
+        with_both old node plain kept.0 kept.1 known.1 known.2 (clients_stay old key (Some pulled.left) node pulled.conns (ap (λ c. client_part (Some c)) left) (ap client_part is)) (off_up old (inside old node) plain.off refl (peer_is_up old plain.off key (live_peer peer) has stands.off) stands.off) stands,
         said ∙ ap pull_out known.0,
         subst (PutsPeer old (inside old node) key) (ap (λ c. peer_part (Some c)) left ∙ ap (λ (t : PullResult). Some (live_peer t.peer)) known.0) put,
       )

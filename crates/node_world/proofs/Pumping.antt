@@ -4,6 +4,7 @@ use Rattle.std.specs.Prelude.{◌==◌, ◌&&◌, ◌||◌, if◌then◌else◌,
 use Rattle.std.specs.List.{flat_map, fold, list_any}
 use Rattle.std.specs.Option.{option_map}
 use Rattle.std.proofs.lemmas.Bool.{eqb-true, eq-eqb}
+use Rattle.vb_calls.specs.Jobs.{after_reads}
 use Rattle.vb_calls.specs.Programs.{Prog, Done, Call, after, bind, each, next_of}
 use Rattle.vb_calls.specs.declared.calls.VbCall.TheVariants as call
 use Rattle.vb_events.specs.declared.event.Answer.TheVariants as answer
@@ -26,7 +27,7 @@ use Rattle.node_core.proofs.GivingLaws.{due, lets_through, not_shut}
 use Rattle.node_world.specs.Cuts.{link_ended, links_ended}
 use Rattle.node_world.specs.Ends.{with_clients_given}
 use Rattle.node_world.specs.GivesFirst.{GivesNothing, losing_client, losing_end, losing_link, losing_node, pumped_link}
-use Rattle.node_world.specs.Links.{PlainLink, link_number, peer_of, producer_node, pump_at}
+use Rattle.node_world.specs.Links.{PlainLink, LinkResult, link_number, peer_of, producer_node, pump_at}
 use Rattle.node_world.specs.Nodes.{PlainNode, all_posted, done, refusal, with_clients_ended, with_states}
 use Rattle.node_world.specs.Pairing.{Each}
 use Rattle.node_world.specs.Pumps.{gives_at, gone_told, with_end, with_given, with_gone}
@@ -35,6 +36,7 @@ use Rattle.node_world.specs.World.{link_outcome, on_link, pump_outcome, pump_ste
 use Rattle.node_world.specs.Worlds.{PlainWorld, Outcome, node_outcome, with_links, with_node_at}
 use Rattle.node_world.proofs.AfterPosts.{none_posted}
 use Rattle.node_world.proofs.ClientsTold.{told_world}
+use Rattle.node_world.proofs.PullReads.{pump_is}
 use Rattle.node_world.proofs.Rows.{map_found, put_found, put_over, put_same, row_number}
 
 -- ---- who is told
@@ -317,7 +319,7 @@ module _ (frames : ℕ) (link : PlainLink) where
           (put_found link_number l w.links link (with_end link gave.peer) there number) ∙ ap Some loses_own
 
       -- what the frames that are put make of it all
-      module _ (left : States) (put : PullResult) (puts : after (peer_pulled frames end_lost) posted.0.vbs ≡ (left, put)) where
+      module _ (left : States) (put : PullResult) (puts : after_reads (peer_pulled frames end_lost) posted.0.shelves posted.0.vbs ≡ (left, put)) where
         abbrev pub links_put : List PlainLink
         links_put = row_put link_number l (pumped_link link put) (map (losing_link n gave.given) w.links)
 
@@ -343,6 +345,7 @@ module _ (frames : ℕ) (link : PlainLink) where
             let at_n : producer_node link_lost ≡ n = ap (λ (d : Desk). d.node) desk_kept in
             ap (link_outcome given_first.0 l producer_node (pump_at frames)) found_lost
             ∙ ap put_at (ap given_first.0.nodes at_n ∙ ap (λ b. if b then Some posted.0 else w.nodes n) (eq-eqb n n refl))
+            ∙ ap (λ (x : PlainNode × LinkResult). with_link link_lost (with_node_at given_first.0 (producer_node link_lost) x.0, x.1)) (pump_is frames link_lost posted.0)
             ∙ ap (λ (x : States × PullResult). with_link link_lost (with_node_at given_first.0 (producer_node link_lost) (with_states posted.0 x.0), (Some (pumped_link link x.1), record { events = x.1.events; answer = x.1.answer }))) puts
             ∙ ap (λ m. with_link link_lost (with_node_at given_first.0 m (with_states posted.0 left), (Some (pumped_link link put), record { events = put.events; answer = put.answer }))) at_n
             ∙ (λ i. (record { nodes = λ m. nodes_put m i; uuids = w.uuids; links = links_are i }, record { events = put.events; answer = put.answer }))

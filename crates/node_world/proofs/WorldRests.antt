@@ -33,11 +33,11 @@ use Rattle.node_core.specs.Admin.{AdminResult, admin_job}
 use Rattle.node_core.specs.GivingUp.{GiveResult, dead_line, peer_gives_up, resolved_in}
 use Rattle.node_core.specs.Dials.{dial_due, dial_bytes}
 use Rattle.node_core.specs.Flushing.{FlushResult, chain_changed, ticked}
-use Rattle.node_core.specs.Peers.{PeerResult, peer_answered, peer_frames, peer_heard}
+use Rattle.node_core.specs.Peers.{PeerResult, peer_answered, peer_frames, peer_heard, peer_pulled}
 use Rattle.node_core.specs.Loading.{are_short, start_job, starts_of}
 use Rattle.node_core.specs.declared.admin.AdminCall.{AdminCall}
 use Rattle.node_core.specs.declared.admin.AdminCall.TheVariants as admin
-use Rattle.node_core.specs.Clients.{PlainClient}
+use Rattle.node_core.specs.Clients.{PlainClient, client_pulled}
 use Rattle.node_world.specs.Arms.{fail_arm, fired_by, stop_arm, under_arm}
 use Rattle.node_world.specs.Cuts.{closed_at, cut_off, links_ended, own_link, unlinked}
 use Rattle.node_world.specs.Dues.{due_at, due_in, due_of, is_counted}
@@ -132,7 +132,7 @@ pull_keeps c frames v node h = by (node.clients c)
   where
     by : (o : Option PlainClient) → At v (pull_if c frames node o).0
     by None = h
-    by (Some client) = h
+    by (Some client) = job_rests (client_pulled frames client) node.vbs node.shelves v h
 
 admin_keeps : (n u : ℕ) (asked : AdminCall) → Keeps (admin_line n u asked)
 admin_keeps n u asked v node h = job_rests (admin_job n u asked) node.vbs node.shelves v h
@@ -331,7 +331,7 @@ pump_rests w l frames rests = by (row_at link_number l w.links)
 
     by : (o : Option PlainLink) → Rests (pump_outcome w l frames o).0
     by None = rests
-    by (Some link) = link_rests (gives_at frames link w (w.nodes (producer_node link))).0 l producer_node (pump_at frames) (gives link (w.nodes (producer_node link)) refl) (λ link v node h. h)
+    by (Some link) = link_rests (gives_at frames link w (w.nodes (producer_node link))).0 l producer_node (pump_at frames) (gives link (w.nodes (producer_node link)) refl) (λ link v node h. job_rests (peer_pulled frames (peer_of link)) node.vbs node.shelves v h)
 
 -- a change of role
 role_rests : (w : PlainWorld) (n v : ℕ) (asked : AdminCall) → Rests w → Rests (role_outcome n v asked w).0

@@ -17,6 +17,7 @@ use Rattle.vb_types.specs.declared.role.Role.TheVariants as role
 use Rattle.vb_types.specs.declared.stream.StreamAsk.{StreamAsk}
 use Rattle.vb_calls.specs.declared.calls.VbAnswer.TheVariants as answer
 use Rattle.vb_calls.specs.declared.calls.VbCall.TheVariants as call
+use Rattle.vb_calls.specs.Jobs.{after_reads}
 use Rattle.vb_calls.specs.Programs.{after}
 use Rattle.vb_calls.specs.State.{Plain, new_vb}
 use Rattle.vb_calls.specs.States.{States}
@@ -39,7 +40,7 @@ pub record PassesClients (w : PlainWorld) (n : ℕ) (node : PlainNode) : Type 0 
       × (client.session.who ≡ record { node = n; client = c; base = number % 4294967296 }) × (client.producer.desk ≡ record { stream = name.Client n c; node = n; base = number % 4294967296 })
   pub hangs : (number c : ℕ) (client : PlainClient) → node.clients c ≡ Some client → (now : PlainNode) × LeavesClient n c node now (after (end_closed client.producer) node.vbs).0 (verb_step w number (verb.AtClient n c client_verb.Hang)) × (now.clients c ≡ None)
   pub pulls : (number c frames : ℕ) (client : PlainClient) → node.clients c ≡ Some client
-      → let put = after (client_pulled frames client) node.vbs in (now : PlainNode) × LeavesClient n c node now put.0 (verb_step w number (verb.AtClient n c (client_verb.Pull frames))) × (now.clients c ≡ Some put.1.client)
+      → let put = after_reads (client_pulled frames client) node.shelves node.vbs in (now : PlainNode) × LeavesClient n c node now put.0 (verb_step w number (verb.AtClient n c (client_verb.Pull frames))) × (now.clients c ≡ Some put.1.client)
       × ((verb_step w number (verb.AtClient n c (client_verb.Pull frames))).1 ≡ record { events = put.1.events; answer = put.1.answer })
 
 -- the arm of the node n is this now

@@ -137,8 +137,8 @@ FeedsPeer key piece old out new = (plain : PlainNode) (peer : PlainPeer) → Nod
 -- the producer under a key puts frames of its streams
 abbrev pub PullsPeer : ℕ → ℕ → ScriptNode → NodeOut → ScriptNode → Type 0
 PullsPeer key frames old out new = (plain : PlainNode) (peer : PlainPeer) → NodeMatch old plain → peer_under old key ≡ Some (live_peer peer) →
-    let (states, told) = after (peer_pulled frames peer) plain.vbs in
-    NodeMatch new (with_states plain states) × (out ≡ pull_out told) × PutsPeer old new key (Some (live_peer told.peer))
+    let (kept, told) = after_job (peer_pulled frames peer) plain.vbs plain.shelves in
+    NodeMatch new (with_kept plain kept) × (out ≡ pull_out told) × PutsPeer old new key (Some (live_peer told.peer))
 
 -- the cursor of the stream of the vBucket v of the producer under a key is taken away
 abbrev pub DropsPeer : ℕ → ℕ → ScriptNode → NodeOut → ScriptNode → Type 0

@@ -5,6 +5,7 @@ use Rattle.std.specs.Option.{option_map}
 use Rattle.vb_events.specs.declared.event.Event.{Event}
 use Rattle.vb_events.specs.declared.event.Event.TheVariants as event
 use Rattle.vb_types.specs.declared.role.Role.TheVariants as role
+use Rattle.vb_calls.specs.Jobs.{after_reads}
 use Rattle.vb_calls.specs.Programs.{after}
 use Rattle.vb_calls.specs.States.{States}
 use Rattle.vbucket.specs.Rows.{row_put}
@@ -50,7 +51,7 @@ pub record GivesFirst (w : PlainWorld) (link : PlainLink) (producer : PlainNode)
   pub posts : all_posted (flat_map (λ one. one.resolved) gave.given) (losing_node gave.given states producer) ≡ (posted, replies)
   pub left : States
   pub put : PullResult
-  pub puts : after (peer_pulled frames (record gave.peer { producer = losing_end gave.given gave.peer.producer })) posted.vbs ≡ (left, put)
+  pub puts : after_reads (peer_pulled frames (record gave.peer { producer = losing_end gave.given gave.peer.producer })) posted.shelves posted.vbs ≡ (left, put)
   pub lines : came.1.events ≡ (map (λ one. event.Role (producer_node link) one.vb role.Dead) gave.given ++ replies) ++ put.events
   pub said : came.1.answer ≡ put.answer
   pub node : came.0.nodes (producer_node link) ≡ Some (record posted { vbs = left })
@@ -65,7 +66,7 @@ GivesNothing frames link = (frames ≡ 0) ⊎ IsShut link.server.window ⊎ Each
 pub record PutsAlone (w : PlainWorld) (link : PlainLink) (producer : PlainNode) (frames : ℕ) (came : Outcome) : Type 0 where
   pub left : States
   pub put : PullResult
-  pub puts : after (peer_pulled frames (peer_of link)) producer.vbs ≡ (left, put)
+  pub puts : after_reads (peer_pulled frames (peer_of link)) producer.shelves producer.vbs ≡ (left, put)
   pub told : came.1 ≡ record { events = put.events; answer = put.answer }
   pub node : came.0.nodes (producer_node link) ≡ Some (record producer { vbs = left })
   pub others : (m : ℕ) → m ≢ producer_node link → came.0.nodes m ≡ w.nodes m

@@ -17,6 +17,7 @@ use Rattle.script_text.specs.declared.verb.Verb.TheVariants as verb
 use Rattle.vb_calls.specs.declared.calls.Resolved.{Resolved}
 use Rattle.vb_calls.specs.declared.calls.VbCall.TheVariants as call
 use Rattle.vb_calls.specs.Following.{log_lacks}
+use Rattle.vb_calls.specs.Jobs.{after_reads}
 use Rattle.vb_calls.specs.Programs.{after}
 use Rattle.vb_calls.specs.State.{Plain}
 use Rattle.vb_calls.specs.States.{States, states_step}
@@ -43,10 +44,10 @@ ToldWith who (line ∷ lines) bytes told =
 
 -- `pull N C K` tells of the frames that the connection's producer puts, and says how many they are and why there are no more; the session stays
 pub record PullsFrames (w : PlainWorld) (n c : ℕ) (client : PlainClient) (node : PlainNode) : Type 0 where
-  pub told : (number frames : ℕ) (put : States × (Answered × Halt)) → after (frames_put frames (begun client.producer)) node.vbs ≡ put
+  pub told : (number frames : ℕ) (put : States × (Answered × Halt)) → after_reads (frames_put frames (begun client.producer)) node.shelves node.vbs ≡ put
       → ToldWith client.session.who put.1.0.events put.1.0.out (verb_step w number (verb.AtClient n c (client_verb.Pull frames))).1.events
       × ((verb_step w number (verb.AtClient n c (client_verb.Pull frames))).1.answer ≡ answer.Pulled put.1.0.count (why_of put.1.1))
-  pub left : (number frames : ℕ) (put : States × (Answered × Halt)) → after (frames_put frames (begun client.producer)) node.vbs ≡ put
+  pub left : (number frames : ℕ) (put : States × (Answered × Halt)) → after_reads (frames_put frames (begun client.producer)) node.shelves node.vbs ≡ put
       → (now : PlainNode) × ((verb_step w number (verb.AtClient n c (client_verb.Pull frames))).0.nodes n ≡ Some now) × (now.vbs ≡ put.0)
       × (now.clients c ≡ Some (record { session = client.session; producer = put.1.0.end }))
 

@@ -171,13 +171,13 @@ down_moved link n node = down_result link n node (after_job (dial_bytes (take n 
 abbrev pub down_at : ℕ → PlainLink → PlainNode → PlainNode × LinkResult
 down_at wanted link node = down_moved link (moved_len wanted link.down) node
 
--- the producer's node and the link after its frames were put, which made this of the vBuckets
-abbrev pub pump_result : PlainLink → PlainNode → States × PullResult → PlainNode × LinkResult
-pump_result link node (states, told) = (with_states node states, (Some (with_server link told.peer told.out), record { events = told.events; answer = told.answer }))
+-- the producer's node and the link after its frames were put, which made this of the vBuckets and their journals
+abbrev pub pump_result : PlainLink → PlainNode → (States × Shelves) × PullResult → PlainNode × LinkResult
+pump_result link node (kept, told) = (with_kept node kept, (Some (with_server link told.peer told.out), record { events = told.events; answer = told.answer }))
 
 -- `pump L K` at the producer's node
 abbrev pub pump_at : ℕ → PlainLink → PlainNode → PlainNode × LinkResult
-pump_at frames link node = pump_result link node (after (peer_pulled frames (peer_of link)) node.vbs)
+pump_at frames link node = pump_result link node (after_job (peer_pulled frames (peer_of link)) node.vbs node.shelves)
 
 -- the producer's node and the link after a stream's cursor was taken away, which made this of the vBuckets: whether it had one
 abbrev pub drop_result : PlainLink → PlainNode → States × Bool → PlainNode × LinkResult

@@ -150,13 +150,13 @@ abbrev pub hang_at : ℕ → PlainNode → PlainNode × Told
 hang_at c node = hung_if c node (node.clients c)
 
 -- the node after frames of its connection c, which made this of the vBuckets and of the connection
-abbrev pub pulled : ℕ → PlainNode → States × ClientPulled → PlainNode × Told
-pulled c node (states, told) = (with_client (with_states node states) c (Some told.client), record { events = told.events; answer = told.answer })
+abbrev pub pulled : ℕ → PlainNode → (States × Shelves) × ClientPulled → PlainNode × Told
+pulled c node (kept, told) = (with_client (with_kept node kept) c (Some told.client), record { events = told.events; answer = told.answer })
 
 -- frames of a connection, where there is one
 abbrev pub pull_if : ℕ → ℕ → PlainNode → Option PlainClient → PlainNode × Told
 pull_if c frames node None = (node, refusal cause.LinkClosed)
-pull_if c frames node (Some client) = pulled c node (after (client_pulled frames client) node.vbs)
+pull_if c frames node (Some client) = pulled c node (after_job (client_pulled frames client) node.vbs node.shelves)
 
 -- `pull N C K` at the node N: the connection, which must be open, puts at most so many frames of its streams
 abbrev pub pull_at : ℕ → ℕ → PlainNode → PlainNode × Told

@@ -47,6 +47,7 @@ pub mod FedNodes
 pub mod Feeding
 pub mod Linked
 pub mod Numbered
+pub mod OpenPulls
 pub mod Openings
 pub mod Quiets
 pub mod Unopened
@@ -59,5 +60,6 @@ pub mod ClientNodes
 pub mod ClientStarts
 pub mod ClientWorlds
 pub mod Unpended
+pub mod NoneUnread
 pub mod Noted
 pub mod Writers

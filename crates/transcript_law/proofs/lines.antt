@@ -4,6 +4,7 @@ pub mod Telling
 pub mod Answering
 pub mod PullTold
 pub mod Pulling
+pub mod Reads
 pub mod Calm
 pub mod Changes
 pub mod ClientLines

@@ -1,3 +1,4 @@
 pub mod Runs
+pub mod Walks
 mod Fronts
 mod Rows

@@ -45,6 +45,8 @@ pub enum AskAnswer {
 pub enum Place {
     /// From memory.
     Memory,
+    /// From the journal, as one snapshot up to this seqno, at which the stream stands from now on.
+    Backfill(u64),
     /// From the journal, once more is saved: they are not all in memory.
     WaitSaved,
 }

@@ -1,11 +1,11 @@
 -- lines of a node and of a link that no prepare hears of: who waited waits on
 use Rattle.std.specs.Prelude.{◌≡◌, ◌<◌, ◌∷◌, ◌==◌, if◌then◌else◌}
-use Rattle.transcript_law.proofs.Words.{ℕ, Bool, true, false, List, [], refl, ap, sym, ◌∙◌, ⊎_elim, eq-eqb, ne_eqb, length, Option, Some, None, is_some, Cause, Outcome, Plain, PlainLink, PlainNode, Role, States, Told, AdminCall}
-use Rattle.transcript_law.proofs.Words.{admin_line, after, client_at, dial_of, done, end_closed, first_cause, hang_at, new_vb, own_link, peer_of, pump_at, peer_pulled, refusal, refused_or, with_client, with_states}
+use Rattle.transcript_law.proofs.Words.{ℕ, Bool, true, false, List, [], refl, ap, sym, ◌∙◌, ⊎_elim, eq-eqb, ne_eqb, length, Option, Some, None, is_some, Cause, Outcome, Plain, PlainLink, PlainNode, Role, Told, AdminCall}
+use Rattle.transcript_law.proofs.Words.{States, admin_line, after, begun, frames_put, subst, client_at, dial_of, done, end_closed, first_cause, hang_at, new_vb, own_link, peer_of, pump_at, peer_pulled, refusal, refused_or, with_client, with_states}
 use Rattle.client_session.specs.declared.session.Awaited.{Awaited}
 use Rattle.disk_journals.specs.{Arms.{opens_all}, Books.{Book}}
 use Rattle.node_core.specs.Admin.{admin_job}
-use Rattle.node_core.specs.Clients.{ClientPulled, PlainClient, client_ended, client_pulled, new_client}
+use Rattle.node_core.specs.Clients.{ClientPulled, PlainClient, client_pull, client_ended, client_pulled, new_client}
 use Rattle.node_core.specs.Dials.{dial_due}
 use Rattle.node_core.specs.Loading.{are_short, starts_of}
 use Rattle.node_world.specs.{Arms.{fired_by}, Dues.{due_at, due_in, due_of, is_counted}, Nodes.{hung_if, pull_at, pull_if, vb_made, with_clients_ended}, Power.{burnt_arm, loaded_node, not_opened, start_at, start_if, start_one, started_by, starts_from}}
@@ -15,11 +15,14 @@ use Rattle.node_world.specs.declared.script_node.TheConstants.{MAX_CLIENTS}
 use Rattle.std.proofs.lemmas.Bool.{cases_eq}
 use Rattle.std.specs.Option.{option_map}
 use Rattle.transcript_law.proofs.awaiting.{Jobs.{IsIdle, job_idle, ran_idle}, States.{Kept}, Stays.{NoneIn, NoneWaits, Stays, none_on, put_none, stays_kept, stays_none, stays_same}}
-use Rattle.transcript_law.proofs.invariant.{Ranged.{pull_same}, TimelyCalls.{MakesJob, closed_makes, due_makes, pull_makes, pulled_makes}}
+use Rattle.transcript_law.proofs.invariant.{TimelyCalls.{MakesJob, closed_makes, due_makes, pull_makes, pulled_makes}}
 use Rattle.transcript_law.proofs.lines.Pulling.{Takes}
 use Rattle.transcript_law.specs.Waits.{IsOutstandingAt, NoneWaitsInVain}
 use Rattle.vb_calls.specs.declared.calls.VbAnswer.TheVariants as answer
 use Rattle.vb_events.specs.declared.event.Cause.TheVariants as cause
+use Rattle.vb_calls.specs.Jobs.{after_job, Ended}
+use Rattle.vb_calls.proofs.JobReadings.{after_job_bind}
+use Rattle.vb_calls.specs.Shelves.{Shelves}
 
 -- ---- clients' connections
 
@@ -59,12 +62,14 @@ pull_stays c frames node = by (node.clients c) refl
     by : (o : Option PlainClient) → node.clients c ≡ o → Stays (Some node) (Some (pull_if c frames node o).0)
     by None there d other is = stays_same (Some node) d other is
     by (Some client) there d other is =
-        let x : States × ClientPulled = after (client_pulled frames client) node.vbs in
-        let kept : Kept node.vbs x.0 = ran_idle (client_pulled frames client) node.vbs (pull_makes IsIdle idle_takes frames client) in
+        let x = after_job (client_pulled frames client) node.vbs node.shelves in
+        let session : x.1.client.session ≡ client.session =
+        subst (λ (y : (States × Shelves) × ClientPulled). y.1.client.session ≡ client.session) (sym (after_job_bind (frames_put frames (begun client.producer)) (λ put. Ended (client_pull client.session put)) node.vbs node.shelves)) refl in
+        let kept : Kept node.vbs x.0.0 = job_idle (client_pulled frames client) node.vbs node.shelves (pull_makes IsIdle idle_takes frames client) in
         ⊎_elim
         (λ same.
         let z : Some x.1.client ≡ Some other = sym (ap (λ b. if b then Some x.1.client else node.clients d) (eq-eqb d c same)) ∙ is in let one : x.1.client ≡ other = cc in
-        (client, ap node.clients same ∙ there, ap (λ (k : PlainClient). k.session) (sym one) ∙ (pull_same frames client node.vbs).0, kept))
+        (client, ap node.clients same ∙ there, ap (λ (k : PlainClient). k.session) (sym one) ∙ session, kept))
         (λ ne. (other, sym (ap (λ b. if b then Some x.1.client else node.clients d) (ne_eqb d c ne)) ∙ is, refl, kept))
         (cases_eq d c)
 
@@ -106,7 +111,7 @@ admin_stays n v asked node makes = stays_kept node (admin_line n v asked node).0
 -- ---- links
 
 pub pump_stays : (frames : ℕ) (link : PlainLink) (node : PlainNode) → Stays (Some node) (Some (pump_at frames link node).0)
-pump_stays frames link node = stays_kept node (pump_at frames link node).0 (λ c. refl) (ran_idle (peer_pulled frames (peer_of link)) node.vbs (pulled_makes IsIdle idle_takes frames (peer_of link)))
+pump_stays frames link node = stays_kept node (pump_at frames link node).0 (λ c. refl) (job_idle (peer_pulled frames (peer_of link)) node.vbs node.shelves (pulled_makes IsIdle idle_takes frames (peer_of link)))
 
 -- what is due behind a batch
 pub due_none : (n v : ℕ) (o : Outcome) → NoneWaits o.0 → NoneWaits (due_in n v o).0

@@ -44,7 +44,8 @@ use Rattle.dcp_producer.specs.declared.desk.Handshake.{Handshake}
 use Rattle.dcp_producer.specs.declared.desk.Handshake.TheVariants as shaken
 use Rattle.dcp_producer.proofs.Decimals.{sizes}
 use Rattle.dcp_producer.specs.Producers.{PlainProducer, PlainStream, Served, is_open, is_sync, member_of, stream_at, without_stream}
-use Rattle.dcp_producer.specs.Serving.{heard, is_taken, response_heard, status_frame, status_sent, open_refusal as shaken_refusal, opened_unless, controlled, controlled_as, sized, sized_as, log_of_reply, high_of_reply, ask_verdict, request_refusal, opens, next_stream, with_asked, verdict_with, stream_verdict, with_granted, stream_answered, opened_answered, opening_requested, refused_answered, refusal_requested, stream_request, closed_sent, stream_closed, close_requested, log_sent, log_answered, log_requested, fed_stream, weighed, counted_by, count_answered, count_requested, acknowledged, message_answered, row_answered, read_answered, frame_answered}
+use Rattle.dcp_producer.specs.Serving.{heard, is_taken, response_heard, status_frame, status_sent, open_refusal as shaken_refusal, opened_unless, controlled, controlled_as, sized, sized_as, log_of_reply, high_of_reply, ask_verdict, request_refusal, opens, next_stream, with_asked, verdict_with, stream_verdict, with_granted, stream_answered, opened_answered, opening_requested, refused_answered, refusal_requested, stream_request, closed_sent, stream_closed, close_requested, log_sent, log_answered, log_requested, fed_stream, weighed, counted_by, count_answered, count_requested, acknowledged, message_answered, row_answered, read_answered, frame_answered, place_of_reply}
+use Rattle.vb_types.specs.declared.stream.Place.{Place}
 
 -- one more answer, or none, behind these bytes
 abbrev pub Answers : List ℕ → List ℕ → Type 0
@@ -234,10 +235,10 @@ call_fits : (states : States) (v id : ℕ) (ask : StreamAsk) (sync : Bool) (ther
 call_fits states v id ask sync None short = (omega arith, omega arith)
 call_fits states v id ask sync (Some vb) short = outcome_fits (open_refusal vb id ask) vb id ask sync (short vb refl)
 
-stream_room : (end : PlainProducer) (id : ℕ) (f : Frame) (ask : StreamAsk) (said : AskAnswer) → room_of (with_granted end id f ask said) ≡ room_of end
-stream_room end id f ask ask_answer.Go = refl
-stream_room end id f ask (ask_answer.Roll to) = refl
-stream_room end id f ask (ask_answer.Refuse code) = refl
+stream_room : (end : PlainProducer) (id : ℕ) (f : Frame) (ask : StreamAsk) (from : Place) (said : AskAnswer) → room_of (with_granted end id f ask from said) ≡ room_of end
+stream_room end id f ask from ask_answer.Go = refl
+stream_room end id f ask from (ask_answer.Roll to) = refl
+stream_room end id f ask from (ask_answer.Refuse code) = refl
 
 module _ (f : Frame) (small : f.opaque < 2 ^ 32) where
   told_served : (ask : StreamAsk) (s : Served) (end : PlainProducer) (log : List LogEntry) (high : ℕ) (said : AskAnswer) → room_of end ≡ room_of s.end → length log ≤ 25 → CodeFits said
@@ -247,7 +248,7 @@ module _ (f : Frame) (small : f.opaque < 2 ^ 32) where
 
   opened_served : (ask : StreamAsk) (s : Served) (reply : Option VbReply) → ReplyFits reply → ServedAs (room_of s.end) s (opened_answered f ask s reply)
   opened_served ask s reply fits =
-      told_served ask s _ (log_of_reply reply) (high_of_reply reply) (ask_verdict reply) (stream_room (with_asked s.end) (next_stream s.end) f ask (ask_verdict reply)) fits.0 fits.1
+      told_served ask s _ (log_of_reply reply) (high_of_reply reply) (ask_verdict reply) (stream_room (with_asked s.end) (next_stream s.end) f ask (place_of_reply reply) (ask_verdict reply)) fits.0 fits.1
 
   refused_served : (ask : StreamAsk) (s : Served) (reply : Option VbReply) → ReplyFits reply → ServedAs (room_of s.end) s (refused_answered f ask s reply)
   refused_served ask s reply fits =

@@ -1,6 +1,6 @@
 -- the line `pump`: the balance of its link, turn by turn
 use Rattle.std.specs.Prelude.{◌≡◌, ◌⊎◌, ◌∷◌, ℕ, ◌+◌, ◌<◌, ◌≤◌, ◌^◌, ◌++◌, List, [], length}
-use Rattle.transcript_law.proofs.Words.{zero, suc, Bool, true, false, refl, ap, sym, ◌∙◌, subst, inl, inr, ⊎_elim, arith, append-nil, append_assoc, Option, Some, All, Frame, Readable, spelling, frames_in, States, Done, Turn, More, Stop, go_on, repeated, after, after_bind, frames_put, pulled, Halt, PlainStream, Served, begun, StaysSound, TakesSnapshots}
+use Rattle.transcript_law.proofs.Words.{zero, suc, Bool, true, false, refl, ap, sym, ◌∙◌, subst, inl, inr, ⊎_elim, arith, append-nil, append_assoc, Option, Some, All, Frame, Readable, spelling, frames_in, States, Turn, More, Stop, frames_put, pulled, Halt, PlainStream, Served, begun, StaysSound, TakesSnapshots}
 use Rattle.transcript_law.proofs.Words.{row_at, PlainLink, PlainConsumer, PlainProducer, link_number, producer_node, PlainNode, PlainWorld, Role, Change, slice_get, pull_result, PullResult, peer_pulled, peer_of, Chronicle, after_lines, Member, Plain, Granted}
 use Rattle.mcbp_frame.proofs.Cases.{length-spelling}
 use Rattle.dcp_producer.specs.Pulling.{Pulling, none_quiet, one_frame, pull_of}
@@ -10,6 +10,8 @@ use Rattle.transcript_law.proofs.balance.{Levels.{Buffered, Holds, Level, Window
 use Rattle.transcript_law.proofs.invariant.{Agreement.{Agrees, ChangeFits, EndsStand, Heir, LinkAgrees, Streaming, Wants, kept_stream}, LinkRows.{found_is_link, put_is_found}}
 use Rattle.transcript_law.proofs.links.{PumpWorlds.{LinkKnown, SoFar, TurnSoFar, TurnsSoFar, pumped, served_link}, Sent.{all_found, change_readable}, PullTurns.{turn}}
 use Rattle.transcript_law.proofs.verbs.PumpFrames.{first_so_far}
+use Rattle.vb_calls.proofs.JobReadings.{after_reads_bind}
+use Rattle.vb_calls.specs.Jobs.{Ended, after_reads, go_on_job, repeated_job}
 
 -- a producer has no stream, or one, of which what it may put fits
 abbrev OneFits : List PlainStream → Type 0
@@ -119,27 +121,27 @@ module _ (takes : TakesSnapshots) (stays : StaysSound) (w : PlainWorld) (r : Chr
     after_turn (More p) (f, is, some, out, passed) = more_holds p.served f is.0 is.1 some out passed
     after_turn (Stop (t, h)) same = subst (λ w. Holds buffer w (over stream_len (down_at t.out)) asked) (sym same.0) (subst (λ out. Holds buffer (room_of s.end) (over stream_len (down_at out)) asked) (sym same.1) holds)
 
-    one_turn : TurnPuts (after (one_frame (pull_of s none_quiet)) states).1
-    one_turn = after_turn (after (one_frame (pull_of s none_quiet)) states).1 (⊎_elim (λ none. none_went s states none) (λ one. one_went s states one.0 one.1 one.2) (stream_fits la.small.1 la.talk.stands))
+    one_turn : TurnPuts (after_reads (one_frame (pull_of s none_quiet)) node.shelves states).1
+    one_turn = after_turn (after_reads (one_frame (pull_of s none_quiet)) node.shelves states).1 (⊎_elim (λ none. none_went s node.shelves states none) (λ one. one_went s node.shelves states one.0 one.1 one.2) (stream_fits la.small.1 la.talk.stands))
 
   -- so many frames
   abbrev Both : States × Turn Pulling (Served × Halt) → Type 0
   Both x = TurnsSoFar w r l link node x × TurnPuts x.1
 
-  next_turn : (states : States) (x : Turn Pulling (Served × Halt)) → TurnSoFar w r l link node states x → TurnPuts x → Both (after (go_on one_frame x) states)
+  next_turn : (states : States) (x : Turn Pulling (Served × Halt)) → TurnSoFar w r l link node states x → TurnPuts x → Both (after_reads (go_on_job one_frame x) node.shelves states)
   next_turn states (More p) g holds =
-      subst (λ q. Both (after (one_frame (pull_of p.served q)) states)) (sym g.1) (turn w r l link node found states p.served g.0 takes stays, one_turn states p.served g.0 holds)
+      subst (λ q. Both (after_reads (one_frame (pull_of p.served q)) node.shelves states)) (sym g.1) (turn w r l link node found states p.served g.0 takes stays, one_turn states p.served g.0 holds)
   next_turn states (Stop stopped) g holds = (g, holds)
 
-  turns : (k : ℕ) (states : States) (s : Served) → SoFar w r l link node states s → PutHolds s → Both (after (repeated k one_frame (pull_of s none_quiet)) states)
+  turns : (k : ℕ) (states : States) (s : Served) → SoFar w r l link node states s → PutHolds s → Both (after_reads (repeated_job k one_frame (pull_of s none_quiet)) node.shelves states)
   turns zero states s g holds = ((g, refl), holds)
   turns (suc k) states s g holds =
-      let x = after (repeated k one_frame (pull_of s none_quiet)) states in
+      let x = after_reads (repeated_job k one_frame (pull_of s none_quiet)) node.shelves states in
       let before = turns k states s g holds in
-      subst Both (sym (after_bind (repeated k one_frame (pull_of s none_quiet)) (go_on one_frame) states)) (next_turn x.0 x.1 before.0 before.1)
+      subst Both (sym (after_reads_bind (repeated_job k one_frame (pull_of s none_quiet)) (go_on_job one_frame) node.shelves states)) (next_turn x.0 x.1 before.0 before.1)
 
   -- what is left of them
-  left_holds : (states : States) (x : Turn Pulling (Served × Halt)) → TurnPuts x → PutHolds (after (pulled x) states).1.0
+  left_holds : (states : States) (x : Turn Pulling (Served × Halt)) → TurnPuts x → PutHolds (after_reads (pulled x) node.shelves states).1.0
   left_holds states (More p) holds = holds
   left_holds states (Stop stopped) holds = holds
 
@@ -150,10 +152,10 @@ module _ (takes : TakesSnapshots) (stays : StaysSound) (w : PlainWorld) (r : Chr
     first_holds : Level link → PutHolds first
     first_holds level = subst (λ b. Holds buffer (room_of link.server) (over stream_len (link.down_heard ++ b)) asked) (sym (append-nil link.down)) (level buffered)
 
-    pub pump_holds : (frames : ℕ) → Level link → PutEnds (after (peer_pulled frames (peer_of link)) node.vbs).1
+    pub pump_holds : (frames : ℕ) → Level link → PutEnds (after_reads (peer_pulled frames (peer_of link)) node.shelves node.vbs).1
     unfolding frames_put
     pump_holds frames level =
-        let x = after (repeated frames one_frame (pull_of first none_quiet)) node.vbs in
+        let x = after_reads (repeated_job frames one_frame (pull_of first none_quiet)) node.shelves node.vbs in
         subst PutEnds
-        (sym (ap (λ y. y.1) (after_bind (frames_put frames first) (λ put. Done (pull_result link.up_heard put)) node.vbs) ∙ ap (λ y. pull_result link.up_heard y.1) (after_bind (repeated frames one_frame (pull_of first none_quiet)) pulled node.vbs)))
+        (sym (ap (λ y. y.1) (after_reads_bind (frames_put frames first) (λ put. Ended (pull_result link.up_heard put)) node.shelves node.vbs) ∙ ap (λ y. pull_result link.up_heard y.1) (after_reads_bind (repeated_job frames one_frame (pull_of first none_quiet)) pulled node.shelves node.vbs)))
         (left_holds x.0 x.1 (turns frames node.vbs first (first_so_far takes stays w r link node found a known read) (first_holds level)).1)

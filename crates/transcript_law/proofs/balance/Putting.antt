@@ -19,9 +19,8 @@ use Rattle.vb_events.specs.declared.event.StreamName.{StreamName}
 use Rattle.vb_calls.specs.declared.calls.VbAnswer.{VbAnswer}
 use Rattle.vb_calls.specs.declared.calls.VbAnswer.TheVariants as answer
 use Rattle.vb_calls.specs.declared.calls.VbReply.{VbReply}
-use Rattle.vb_calls.specs.Programs.{Done, Prog, Turn, More, Stop, AnyCall, AnyReply, Always, after}
+use Rattle.vb_calls.specs.Programs.{Turn, More, Stop, AnyCall, AnyReply}
 use Rattle.vb_calls.specs.States.{States}
-use Rattle.vb_calls.proofs.Conduct.{after_always, always_bind}
 use Rattle.dcp_consumer.specs.Counting.{CountsAsMessage}
 use Rattle.dcp_consumer.proofs.Counted.{messages}
 use Rattle.dcp_producer.proofs.OneStream.{no_frame_of, one_came, one_frame_of, shut_frame_of}
@@ -31,12 +30,19 @@ use Rattle.takeover.specs.GivingUp.{done}
 use Rattle.takeover.specs.declared.give_up.{GiveStep.{GiveStep}, GiveUp.{GiveUp}}
 use Rattle.vb_types.specs.declared.role.Role.{Role}
 use Rattle.dcp_producer.specs.Firsts.{start_sent}
-use Rattle.dcp_producer.specs.Frames.{Next, STATE_CHANGED, act_message, alive_next, none_next, role_of, state_next, step_next, close_sent, marker_flags, next_by, next_frame, over, place_requested, place_said, placed_next, reaches_end, take_answered, taken_next}
+use Rattle.dcp_producer.specs.Frames.{Next, STATE_CHANGED, act_message, alive_next, none_next, role_of, state_next, step_next, close_sent, marker_flags, next_by, next_frame, over, place_requested, place_said, placed_next, reaches_end, take_answered, taken_next, backfill_next, changes_next, go_on_by, read_comes, read_up, take_requested, with_unread}
 use Rattle.dcp_producer.specs.Producers.{PlainStream, Served}
 use Rattle.dcp_producer.specs.Pulling.{Pulling, frame_put, none_quiet, one_frame, pull_of}
 use Rattle.transcript_law.proofs.balance.Rooms.{Room, room_of}
 use Rattle.transcript_law.proofs.lines.Pulling.{lets_through}
 use Rattle.transcript_law.specs.Balance.{is_of_stream, stream_len}
+use Rattle.backfill.specs.declared.backfilled.Backfilled.TheVariants as filled
+use Rattle.backfill.specs.Backfills.{backfilled}
+use Rattle.backfill.specs.declared.backfilled.Backfilled.{Backfilled}
+use Rattle.vb_calls.proofs.JobConduct.{always_bind_job}
+use Rattle.vb_calls.proofs.JobReadings.{reads_always}
+use Rattle.vb_calls.specs.Jobs.{AlwaysJob, Ended, IsRead, Job, after_reads}
+use Rattle.vb_calls.specs.Shelves.{Shelves}
 
 -- readers take what may be put of a stream next
 pub record StreamFits (stream : PlainStream) : Type 0 where
@@ -73,9 +79,10 @@ abbrev NextIs : Next → Type 0
 NextIs (next.Put m line, left) = IsPut (dcp_frame m left.opaque left.vb)
 NextIs (next.End reason, left) = IsPut (dcp_frame (msg.StreamEnd reason) left.opaque left.vb)
 NextIs (next.Quiet for, left) = Unit {0}
+NextIs (next.Disk, left) = Unit {0}
 
-abbrev Nexts : Prog Next → Type 0
-Nexts prog = Always AnyCall NextIs prog
+abbrev Nexts : Job Next → Type 0
+Nexts one = AlwaysJob AnyReply AnyCall IsRead NextIs one
 
 module _ (name : StreamName) (stream : PlainStream) (fits : StreamFits stream) where
   end_readable : (reason : ℕ) → Readable (dcp_frame (msg.StreamEnd reason) stream.opaque stream.vb)
@@ -114,31 +121,60 @@ module _ (name : StreamName) (stream : PlainStream) (fits : StreamFits stream) w
       by answer.Nothing = none_is stream.gives
       by other = end_is STATE_CHANGED
 
-  place_is : (from : Option Place) → Nexts (placed_next name stream from)
-  place_is (Some place.Memory) = (tt, λ reply any. take_is reply)
-  place_is (Some place.WaitSaved) = tt
-  place_is None = end_is STATE_CHANGED
+  asks_is : Nexts (take_requested name stream)
+  asks_is = (tt, λ reply any. take_is reply)
 
-  reached_is : (b : Bool) → Nexts (if b then close_sent stream else place_requested name stream)
-  reached_is true = (tt, λ reply any. end_is 0)
-  reached_is false = (tt, λ reply any. place_is (place_said reply))
+  -- a backfill is read, and where it gives nothing, the stream goes on so
+  read_is : (on : PlainStream → Job Next) (end : ℕ) → Nexts (on (read_up stream)) → Nexts (backfill_next name on end stream)
+  read_is on end next = (tt, λ got. by (backfilled stream.place end stream.sync got))
+    where
+      by : (came : Backfilled) → Nexts (go_on_by on (read_comes name stream came))
+      by (filled.Snapshot x) = let start : ℕ = start_sent stream.marked stream.first x.start in (marker_readable start x.end (marker_flags x.disk), (messages (msg.SnapshotMarker start x.end (marker_flags x.disk)) stream.opaque stream.vb).1 tt)
+      by filled.Nothing = next
+      by filled.Disk = tt
+
+-- a stream with nothing to read, or with something
+up_fits : (stream : PlainStream) → StreamFits stream → StreamFits (read_up stream)
+up_fits stream fits = record { opaque = fits.opaque; vb = fits.vb; item = fits.item }
+
+unread_fits : (end : ℕ) (stream : PlainStream) → StreamFits stream → StreamFits (with_unread end stream)
+unread_fits end stream fits = record { opaque = fits.opaque; vb = fits.vb; item = fits.item }
+
+module _ (name : StreamName) where
+  place_is : (stream : PlainStream) → StreamFits stream → (from : Option Place) → Nexts (placed_next name stream from)
+  place_is stream fits (Some place.Memory) = asks_is name stream fits
+  place_is stream fits (Some (place.Backfill end)) = read_is name (with_unread end stream) (unread_fits end stream fits) (take_requested name) end (asks_is name (read_up (with_unread end stream)) (up_fits (with_unread end stream) (unread_fits end stream fits)))
+  place_is stream fits (Some place.WaitSaved) = tt
+  place_is stream fits None = end_is name stream fits STATE_CHANGED
+
+  places_is : (stream : PlainStream) → StreamFits stream → Nexts (place_requested name stream)
+  places_is stream fits = (tt, λ reply any. place_is stream fits (place_said reply))
+
+  changes_is : (stream : PlainStream) → StreamFits stream → (o : Option ℕ) → Nexts (changes_next name stream o)
+  changes_is stream fits None = places_is stream fits
+  changes_is stream fits (Some end) = read_is name stream fits (place_requested name) end (places_is (read_up stream) (up_fits stream fits))
+
+module _ (name : StreamName) (stream : PlainStream) (fits : StreamFits stream) where
+  reached_is : (b : Bool) → Nexts (if b then close_sent stream else changes_next name stream stream.unread)
+  reached_is true = (tt, λ reply any. end_is name stream fits 0)
+  reached_is false = changes_is name stream fits stream.unread
 
   step_is : (g : GiveUp) (step : GiveStep) → Nexts (step_next name stream g step)
   step_is g GiveStep.SendAll = reached_is false
-  step_is g GiveStep.SendPending = state_is g (role_of GiveStep.SendPending)
-  step_is g GiveStep.AwaitPending = state_is g (role_of GiveStep.AwaitPending)
-  step_is g GiveStep.Yield = state_is g (role_of GiveStep.Yield)
+  step_is g GiveStep.SendPending = state_is name stream fits g (role_of GiveStep.SendPending)
+  step_is g GiveStep.AwaitPending = state_is name stream fits g (role_of GiveStep.AwaitPending)
+  step_is g GiveStep.Yield = state_is name stream fits g (role_of GiveStep.Yield)
   step_is g GiveStep.SendRest = reached_is false
-  step_is g GiveStep.SendActive = state_is g (role_of GiveStep.SendActive)
-  step_is g GiveStep.AwaitActive = state_is g (role_of GiveStep.AwaitActive)
+  step_is g GiveStep.SendActive = state_is name stream fits g (role_of GiveStep.SendActive)
+  step_is g GiveStep.AwaitActive = state_is name stream fits g (role_of GiveStep.AwaitActive)
   step_is g GiveStep.End = reached_is true
 
   alive_is : (o : Option GiveUp) → Nexts (alive_next name stream o)
   alive_is None = reached_is (reaches_end stream.until stream.marked)
   alive_is (Some g) = step_is g g.step
 
-  more_is : (b : Bool) → Nexts (if b then Done (over STATE_CHANGED stream) else alive_next name stream stream.gives)
-  more_is true = end_is STATE_CHANGED
+  more_is : (b : Bool) → Nexts (if b then Ended (over STATE_CHANGED stream) else alive_next name stream stream.gives)
+  more_is true = end_is name stream fits STATE_CHANGED
   more_is false = alive_is stream.gives
 
   next_is : Nexts (next_frame name stream)
@@ -166,19 +202,19 @@ passes s f line streams turn free = by (s.end.window.size == 0) refl
     by true none = (refl, inl (grind (arith, nat_tests), refl))
     by false some = (refl, inr (grind (arith, nat_tests, free, some), refl))
 
-module _ (s : Served) (states : States) where
+module _ (s : Served) (shelves : Shelves) (states : States) where
   abbrev Goes : Type 0
-  Goes = Went s (after (one_frame (pull_of s none_quiet)) states).1
+  Goes = Went s (after_reads (one_frame (pull_of s none_quiet)) shelves states).1
 
   shut_went : lets_through s.end ≡ false → Goes
-  shut_went shut = subst (λ prog. Went s (after prog states).1) (sym (shut_frame_of s none_quiet shut)) (refl, refl)
+  shut_went shut = subst (λ prog. Went s (after_reads prog shelves states).1) (sym (shut_frame_of s none_quiet shut)) (refl, refl)
 
   -- there is none
   pub none_went : s.end.streams ≡ [] → Goes
   none_went none = by (lets_through s.end) refl
     where
       by : (b : Bool) → lets_through s.end ≡ b → Goes
-      by true free = subst (λ prog. Went s (after prog states).1) (sym (no_frame_of s none free)) (refl, refl)
+      by true free = subst (λ prog. Went s (after_reads prog shelves states).1) (sym (no_frame_of s none free)) (refl, refl)
       by false shut = shut_went shut
 
   -- the one that there is
@@ -193,9 +229,10 @@ module _ (s : Served) (states : States) where
       came free (next.End reason, left) is =
           (dcp_frame (msg.StreamEnd reason) left.opaque left.vb, is, some, refl, passes s (dcp_frame (msg.StreamEnd reason) left.opaque left.vb) (event.Finished s.end.desk.stream reason) [] 0 free)
       came free (next.Quiet for, left) is = (refl, refl)
+      came free (next.Disk, left) is = (refl, refl)
 
       by : (b : Bool) → lets_through s.end ≡ b → Goes
-      by true free = subst (λ prog. Went s (after prog states).1) (sym (one_frame_of s stream one free))
-          (after_always AnyCall (Went s) _ states
-          (always_bind AnyReply AnyCall NextIs (Went s) (next_frame s.end.desk.stream stream) (λ next. Done (one_came s next)) (next_is s.end.desk.stream stream fits) (came free)))
+      by true free = subst (λ prog. Went s (after_reads prog shelves states).1) (sym (one_frame_of s stream one free))
+          (reads_always AnyCall IsRead (Went s) _ shelves states
+          (always_bind_job AnyReply AnyCall IsRead NextIs (Went s) (next_frame s.end.desk.stream stream) (λ next. Ended (one_came s next)) (next_is s.end.desk.stream stream fits) (came free)))
       by false shut = shut_went shut

@@ -12,6 +12,7 @@ use Rattle.transcript_law.proofs.balance.{Downing.{Writing, down_level, due_leve
 use Rattle.transcript_law.proofs.{links.PumpWorlds.{AllKnown, LinkKnown}, noted.Pumped.{pump_known}}
 use Rattle.transcript_law.specs.LawfulAnswers.{IsStill}
 use Rattle.transcript_law.proofs.links.DropRows.{drop_links}
+use Rattle.transcript_law.proofs.lines.Reads.{pump_reads, pumps_read}
 
 -- the consumers of links have opaques
 abbrev SmallAfter : List PlainLink → Type 0
@@ -25,17 +26,17 @@ put_level w l link all level x i = ⊎_elim (λ same. subst Level (sym same) lev
 
 -- frames that are put where all agrees, and what is noted of the link is as the lines tell
 pumped_level : (w : PlainWorld) (r : Chronicle) (l frames : ℕ) → Agrees w r → ((link : PlainLink) → row_at link_number l w.links ≡ Some link → LinkKnown r r link) → AllLevel w → AllLevel (on_link w l producer_node (pump_at frames)).0
-pumped_level w r l frames a read all = by (row_at link_number l w.links) refl
+pumped_level w r l frames a read all = subst (λ pump. AllLevel (on_link w l producer_node pump).0) (sym (pumps_read frames)) (by (row_at link_number l w.links) refl)
   where
     at : (link : PlainLink) → row_at link_number l w.links ≡ Some link → (o : Option PlainNode) → w.nodes (producer_node link) ≡ o
-        → AllLevel (with_link link (node_outcome w (producer_node link) (Some link, refusal Cause.UnknownNode) o (pump_at frames link))).0
+        → AllLevel (with_link link (node_outcome w (producer_node link) (Some link, refusal Cause.UnknownNode) o (pump_reads frames link))).0
     at link found None none = put_level w (link_number link) link all (all link (found_is_link l w.links link found).0)
     at link found (Some node) known =
         let p = found_is_link l w.links link found in
         put_level w (link_number link) _ all
         (λ b. pump_holds take_snapshots stays w r link node (ap (λ k. row_at link_number k w.links) p.1 ∙ found) b a (read link found) known frames (all link p.0))
 
-    by : (o : Option PlainLink) → row_at link_number l w.links ≡ o → AllLevel (link_outcome w l producer_node (pump_at frames) o).0
+    by : (o : Option PlainLink) → row_at link_number l w.links ≡ o → AllLevel (link_outcome w l producer_node (pump_reads frames) o).0
     by None none = all
     by (Some link) found = at link found (w.nodes (producer_node link)) refl
 

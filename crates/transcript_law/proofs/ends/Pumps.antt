@@ -11,6 +11,8 @@ use Rattle.transcript_law.proofs.balance.Leaving.{posted_links}
 use Rattle.transcript_law.proofs.ends.Links.{Kept, kept_behind, kept_both, kept_put, kept_same, kept_told}
 use Rattle.transcript_law.proofs.{invariant.Ranged.{IsRanged, NodeRangedIf}, lines.{ClientLines.{AllKept}, SessionLines.{IsKept}}, links.PumpAnswers.{pump_says}, verbs.{NodeLines.{on_link_by}, Tellings.{Are, are_map, are_more, are_posts}}}
 use Rattle.transcript_law.specs.{Plainness.{IsOfClient}, Tellings.{are_all}}
+use Rattle.vb_calls.specs.Jobs.{after_job}
+use Rattle.transcript_law.proofs.lines.Reads.{pumps_read}
 
 -- ---- links
 
@@ -50,7 +52,7 @@ pump_kept w l frames = by (row_at link_number l w.links)
         let put = on_link gave.0 l producer_node (pump_at frames) in
         kept_both w.links gave.0.links put.0.links (gave.1.events ++ put.1.events) (gave_kept w frames link (w.nodes (producer_node link)) (gave.1.events ++ put.1.events))
         (kept_behind gave.0.links put.0.links gave.1.events put.1.events
-        (puts_kept gave.0 l producer_node (pump_at frames) (λ link node. let x = after (peer_pulled frames (peer_of link)) node.vbs in (with_server link x.1.peer x.1.out, refl, refl))))
+        (puts_kept gave.0 l producer_node (pump_at frames) (λ link node. let x = after_job (peer_pulled frames (peer_of link)) node.vbs node.shelves in (with_server link x.1.peer x.1.out, refl, refl))))
 
 -- ---- the answer
 
@@ -100,6 +102,6 @@ pump_told w ranged dial l frames link node found known =
     let replies : Are is_other g.replies = subst (λ (x : PlainNode × List Event). Are is_other x.1) g.posts (are_posts is_other n (other_clients n) (flat_map (λ one. one.resolved) g.gave.given) losing (λ c. losing_kept n c g.gave.given (node.clients c) (own c))) in
     let others : Are is_other front = are_more is_other (map (λ one. Event.Role n one.vb Role.Dead) g.gave.given) g.replies (are_map is_other (λ one. Event.Role n one.vb Role.Dead) g.gave.given (λ one. refl)) replies in
     let peer = record g.gave.peer { producer = losing_end g.gave.given g.gave.peer.producer } in
-    let put = (pump_says dial frames (with_end link peer) g.posted).0 in
+    let put = subst (λ pump. IsPumped dial frames (pump (with_end link peer) g.posted).1.1.events (pump (with_end link peer) g.posted).1.1.answer) (pumps_read frames) (pump_says dial frames (with_end link peer) g.posted).0 in
     let so : IsPumped dial frames g.put.events g.put.answer = subst (λ (x : States × PullResult). IsPumped dial frames x.1.events x.1.answer) g.puts put in
     subst (IsPumped dial frames (pump_step w l frames).1.events) (sym g.said) (subst (λ lines. IsPumped dial frames lines g.put.answer) (sym g.lines) (pumped_behind dial frames front g.put.events g.put.answer others so))

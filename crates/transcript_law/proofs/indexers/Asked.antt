@@ -18,6 +18,7 @@ use Rattle.transcript_law.specs.{LawfulClients.{IsActive, IsFree as IsFreeOf, Is
 use Rattle.vb_calls.specs.declared.calls.VbCall.TheVariants as call
 use Rattle.vb_events.specs.declared.event.StreamName.{StreamName}
 use Rattle.vb_types.specs.Statuses.{status_code}
+use Rattle.vb_calls.specs.Streams.{asked_stream, source_of}
 
 -- it is let continue, or sent back
 abbrev Grants : AskAnswer → Type 0
@@ -210,7 +211,7 @@ module _ (w : PlainWorld) (n c : ℕ) (node : PlainNode) (r : Chronicle) (f : Fr
         st = with_vb_at states v pv'
 
         abbrev stream : PlainStream
-        stream = new_stream id f ask
+        stream = new_stream id f ask sync (source_of pv (asked_stream id ask sync))
 
         abbrev end : PlainProducer
         end = with_opened stream (with_asked p)

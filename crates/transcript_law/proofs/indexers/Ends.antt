@@ -18,6 +18,7 @@ use Rattle.vb_calls.specs.States.{call_at}
 use Rattle.vb_calls.specs.declared.calls.VbCall.TheVariants.{CloseStream}
 use Rattle.vb_events.specs.declared.event.Event.TheVariants as event
 use Rattle.vb_events.specs.declared.event.StreamName.TheVariants as name
+use Rattle.vb_calls.specs.Jobs.{after_reads}
 
 -- streams without one of them
 pub without_there : (id x : ℕ) (streams : List Stream) → (x ≡ id → ⊥) → stream_at x (without_stream id streams) ≡ stream_at x streams
@@ -109,13 +110,13 @@ module _ (w : PlainWorld) (r : Chronicle) (cl : Cluster) (n c : ℕ) (node : Pla
         (open_own w n c node now here cl g.agrees t.vb t.id (refl, (client, client_here w n c node states (Some client), among_open t s.end.streams i going)))
 
     -- what was asked for was put: its stream is closed at its vBucket
-    pub reached_turn : length t.items ≤ t.next → reaches_end t.until t.marked ≡ true → Comes (after (close_sent t) states)
+    pub reached_turn : length t.items ≤ t.next → reaches_end t.until t.marked ≡ true → Comes (after_reads (close_sent t) node.shelves states)
     reached_turn whole reached =
         let p' : Plain = vb_without opens.vb t.id in
         let states' : States = with_vb_at states t.vb p' in
         let si = known.is in
         let there : (k : ℕ) → (k ≡ t.vb → ⊥) → states' k ≡ states k = λ k ne. ap (λ b. if b then Some p' else states k) (ne_eqb k t.vb ne) in
-        let is : after (close_sent t) states ≡ (states', over ALL_SENT t) = ap (λ o. ((call_at states t.vb (CloseStream t.id) o).0, over ALL_SENT t)) has in
+        let is : after_reads (close_sent t) node.shelves states ≡ (states', over ALL_SENT t) = ap (λ o. ((call_at states t.vb (CloseStream t.id) o).0, over ALL_SENT t)) has in
         subst Comes (sym is)
         (over_turn ALL_SENT states'
         (moved_step p' (Some (client_of w r cl n c node session (end_put t ALL_SENT (stream_went t s)))) states' (record { sound = sound_streams opens.vb p'.streams vb_agrees.sound (feeds_closed opens.vb.role opens.vb.floor t.id opens.vb.streams vb_agrees.sound.feeds); alone = refl; others = λ x ne. without_there t.id x opens.vb.streams ne })

@@ -4,7 +4,7 @@ use Rattle.transcript_law.proofs.Words.{ℕ, Bool, true, false, and_parts, eqb-t
 use Rattle.client_session.specs.Serving.{PlainSession}
 use Rattle.dcp_producer.specs.Cuts.{IsShort}
 use Rattle.dcp_producer.specs.Producers.{replaced, stream_at as kept_at, without_id}
-use Rattle.dcp_producer.specs.Pulling.{Pulling, QuietOnes, first_wait, with_quiet}
+use Rattle.dcp_producer.specs.Pulling.{Pulling, QuietOnes, first_wait, with_quiet, Halting}
 use Rattle.dcp_producer.specs.declared.next_frame.Waits.{Waits}
 use Rattle.flow_control.specs.Windows.{is_open as lets_through, with_put}
 use Rattle.mcbp_frame.specs.{Cutting.{frame_in}, Frames.{first_frame}}
@@ -112,7 +112,7 @@ module _ (w : PlainWorld) (r : Chronicle) (cl : Cluster) (n c : ℕ) (node : Pla
 
     -- ---- what a turn of the stream t comes to
 
-    -- its frame was put; what else is open was so before
+    -- its frame was put; what else is open was so before. No journal is read for it
     pub record PutSoFar (t : PlainStream) (states' : States) (s' : Served) : Type 0 where
       pub so : SoFar states' s'
       pub bytes : List ℕ
@@ -132,9 +132,10 @@ module _ (w : PlainWorld) (r : Chronicle) (cl : Cluster) (n c : ℕ) (node : Pla
       pub quiet : waits ≡ false → IsQuietNow read t
       pub waiting : waits ≡ true → IsWaitingNow read t
 
-    abbrev pub TurnSoFar : QuietOnes → PlainStream → States × Turn Pulling Pulling → Type 0
+    abbrev pub TurnSoFar : QuietOnes → PlainStream → States × Turn Pulling Halting → Type 0
     TurnSoFar q t (states', More p) = QuietSoFar q t states' p
-    TurnSoFar q t (states', Stop p) = PutSoFar t states' p.served × (p.quiet ≡ q)
+    TurnSoFar q t (states', Stop (p, None)) = PutSoFar t states' p.served × (p.quiet ≡ q)
+    TurnSoFar q t (states', Stop (p, Some halted)) = ⊥
 
     -- one more line, and the frame behind it
     pub put_more : (t : PlainStream) (states' : States) (s' : Served) (told : Event) (f : Frame) (line : StreamLine) → s'.events ≡ s.events ++ told ∷ [] → s'.out ≡ s.out ++ spelling f → IsShort f → is_frame told ≡ true

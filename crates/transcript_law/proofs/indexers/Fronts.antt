@@ -1,15 +1,17 @@
 -- a pull of a client's streams: each of them has its turn till none has more to put, or all were put that were asked for
 use Rattle.std.specs.Prelude.{◌≡◌, ◌⊎◌, ◌≤◌, ◌<◌, ◌++◌, ◌∷◌, if◌then◌else◌}
-use Rattle.transcript_law.proofs.Words.{ℕ, zero, suc, Bool, true, false, List, [], length, take, drop, refl, sym, ap, ◌∙◌, subst, arith, ⊎_elim, append-nil, append_assoc, length-append, take-append-drop, Chronicle, Cluster, Done, Halt, More, PlainNode, PlainProducer, PlainStream, PlainWorld, Served, States, Stop, TakesSnapshots, Turn, Why, after, after_bind, after_lines, bind, go_on, pulled, repeated, why_of}
+use Rattle.transcript_law.proofs.Words.{ℕ, zero, suc, Bool, true, false, List, [], length, take, drop, refl, sym, ap, ◌∙◌, subst, arith, ⊎_elim, Some, None, append-nil, append_assoc, length-append, take-append-drop, Chronicle, Cluster, Halt, More, PlainNode, PlainProducer, PlainStream, PlainWorld, Served, States, Stop, TakesSnapshots, Turn, Why, after, after_lines, pulled, why_of}
 use Rattle.client_session.specs.Serving.{PlainSession}
 unfoldable use Rattle.dcp_producer.specs.Pulling.{frames_put, one_frame, one_turn}
-use Rattle.dcp_producer.specs.Pulling.{Pulling, QuietOnes, halt_of, is_quiet, none_quiet, pull_of, quiet_halt, turns_came}
+use Rattle.dcp_producer.specs.Pulling.{Pulling, QuietOnes, halt_of, is_quiet, none_quiet, pull_of, quiet_halt, turns_came, Halting}
 use Rattle.dcp_producer.specs.Producers.{with_turn}
 use Rattle.dcp_producer.specs.Turns.{turns_of}
 use Rattle.flow_control.specs.Windows.{is_open as lets_through}
 use Rattle.transcript_law.proofs.indexers.{Framed.{wait_of, IsQuietNow, RestsNow, SoFar, WaitsNow, mine}, Pulls.{Came, Pulled, one_goes}, Rounds.{among_append, among_order, round}}
 use Rattle.transcript_law.proofs.invariant.OpenStreams.{Among}
 use Rattle.vbucket.specs.Takes.{TakesExactly}
+use Rattle.vb_calls.proofs.JobReadings.{after_reads_bind}
+use Rattle.vb_calls.specs.Jobs.{Ended, after_reads, bind_job, go_on_job, repeated_job}
 
 -- as many have their turns as there are
 order_long : (end : PlainProducer) → length (turns_of end) ≡ length end.streams
@@ -66,11 +68,12 @@ module _ (takes : TakesSnapshots) (exactly : TakesExactly) (w : PlainWorld) (r :
     pub window : p.served.end.window ≡ p0.served.end.window
     pub order : Turned p0.served.end p.served.end p.quiet k
 
-  abbrev Rounds : Pulling → ℕ → States × Turn Pulling Pulling → Type 0
+  abbrev Rounds : Pulling → ℕ → States × Turn Pulling Halting → Type 0
   Rounds p0 k (states, More p) = Rounded p0 k states p
-  Rounds p0 k (states, Stop p) = Goes states p
+  Rounds p0 k (states, Stop (p, None)) = Goes states p
+  Rounds p0 k (states, Stop (p, Some halted)) = ⊥
 
-  next_round : (p0 : Pulling) (k : ℕ) (states : States) (p : Pulling) → k < length p0.served.end.streams → Rounded p0 k states p → (x : States × Turn Pulling Pulling) → Came takes exactly w r cl n c node session p x → Rounds p0 (suc k) x
+  next_round : (p0 : Pulling) (k : ℕ) (states : States) (p : Pulling) → k < length p0.served.end.streams → Rounded p0 k states p → (x : States × Turn Pulling Halting) → Came takes exactly w r cl n c node session p x → Rounds p0 (suc k) x
   next_round p0 k states p few g (states', More p') went = record {
     pulled = went.pulled;
     streams = ap (λ (e : PlainProducer). e.streams) went.end_is ∙ g.streams;
@@ -82,9 +85,10 @@ module _ (takes : TakesSnapshots) (exactly : TakesExactly) (w : PlainWorld) (r :
         subst (λ e. Turned p0.served.end e p'.quiet (suc k)) (sym went.end_is)
         (turned_more p0.served.end p.served.end p.quiet p'.quiet k rd.stream rd.behind few g.order rd.order rd.after (went.asked rd.stream rd.turned) went.more);
   }
-  next_round p0 k states p few g (states', Stop p') went = went
+  next_round p0 k states p few g (states', Stop (p', None)) went = went
+  next_round p0 k states p few g (states', Stop (p', Some halted)) went = absurd went
 
-  turns_go : (k : ℕ) (p0 : Pulling) (states : States) → k ≤ length p0.served.end.streams → lets_through p0.served.end.window ≡ true → Goes states p0 → Rounds p0 k (after (repeated k one_turn p0) states)
+  turns_go : (k : ℕ) (p0 : Pulling) (states : States) → k ≤ length p0.served.end.streams → lets_through p0.served.end.window ≡ true → Goes states p0 → Rounds p0 k (after_reads (repeated_job k one_turn p0) node.shelves states)
   turns_go zero p0 states few through g = record {
     pulled = g;
     streams = refl;
@@ -92,12 +96,13 @@ module _ (takes : TakesSnapshots) (exactly : TakesExactly) (w : PlainWorld) (r :
     order = record { front = []; back = turns_of p0.served.end; order = refl; count = refl; now = sym (append-nil (turns_of p0.served.end)); quiet = λ u i. absurd i };
   }
   turns_go (suc k) p0 states few through g =
-      subst (Rounds p0 (suc k)) (sym (after_bind (repeated k one_turn p0) (go_on one_turn) states))
-      (by (after (repeated k one_turn p0) states).0 (after (repeated k one_turn p0) states).1 (turns_go k p0 states (omega (arith, few)) through g))
+      subst (Rounds p0 (suc k)) (sym (after_reads_bind (repeated_job k one_turn p0) (go_on_job one_turn) node.shelves states))
+      (by (after_reads (repeated_job k one_turn p0) node.shelves states).0 (after_reads (repeated_job k one_turn p0) node.shelves states).1 (turns_go k p0 states (omega (arith, few)) through g))
     where
-      by : (states' : States) (x : Turn Pulling Pulling) → Rounds p0 k (states', x) → Rounds p0 (suc k) (after (go_on one_turn x) states')
-      by states' (More p) d = next_round p0 k states' p (omega (arith, few)) d (after (one_turn p) states') (one_goes takes exactly w r cl n c node session states' p d.pulled (ap lets_through d.window ∙ through))
-      by states' (Stop p) d = d
+      by : (states' : States) (x : Turn Pulling Halting) → Rounds p0 k (states', x) → Rounds p0 (suc k) (after_reads (go_on_job one_turn x) node.shelves states')
+      by states' (More p) d = next_round p0 k states' p (omega (arith, few)) d (after_reads (one_turn p) node.shelves states') (one_goes takes exactly w r cl n c node session states' p d.pulled (ap lets_through d.window ∙ through))
+      by states' (Stop (p, None)) d = d
+      by states' (Stop (p, Some halted)) d = absurd d
 
   -- ---- frames
 
@@ -159,26 +164,27 @@ module _ (takes : TakesSnapshots) (exactly : TakesExactly) (w : PlainWorld) (r :
           let there : Among u t.front = subst (Among u) (t.order ∙ ap (λ xs. t.front ++ xs) none ∙ append-nil t.front) (among_order p0.served.end u (subst (Among u) g.streams i)) in
           t.quiet u there
 
-  frame_goes : (p : Pulling) (states : States) → Goes states p → Frames (after (one_frame p) states)
+  frame_goes : (p : Pulling) (states : States) → Goes states p → Frames (after_reads (one_frame p) node.shelves states)
   unfolding one_frame
   frame_goes p states g = by (lets_through p.served.end.window) refl
     where
-      came : lets_through p.served.end.window ≡ true → (states' : States) (x : Turn Pulling Pulling) → Rounds p (length p.served.end.streams) (states', x) → Frames (states', turns_came x)
+      came : lets_through p.served.end.window ≡ true → (states' : States) (x : Turn Pulling Halting) → Rounds p (length p.served.end.streams) (states', x) → Frames (states', turns_came x)
       came through states' (More p') d = all_turned p states' p' through d
-      came through states' (Stop p') d = d
+      came through states' (Stop (p', None)) d = d
+      came through states' (Stop (p', Some halted)) d = absurd d
 
-      by : (b : Bool) → lets_through p.served.end.window ≡ b → Frames (after (if b then bind (repeated (length p.served.end.streams) one_turn p) (λ turns. Done (turns_came turns)) else Done (Stop (p.served, Halt.Full))) states)
-      by true through = subst Frames (sym (after_bind (repeated (length p.served.end.streams) one_turn p) (λ turns. Done (turns_came turns)) states))
-          (came through (after (repeated (length p.served.end.streams) one_turn p) states).0 (after (repeated (length p.served.end.streams) one_turn p) states).1 (turns_go (length p.served.end.streams) p states (omega arith) through g))
+      by : (b : Bool) → lets_through p.served.end.window ≡ b → Frames (after_reads (if b then bind_job (repeated_job (length p.served.end.streams) one_turn p) (λ turns. Ended (turns_came turns)) else Ended (Stop (p.served, Halt.Full))) node.shelves states)
+      by true through = subst Frames (sym (after_reads_bind (repeated_job (length p.served.end.streams) one_turn p) (λ turns. Ended (turns_came turns)) node.shelves states))
+          (came through (after_reads (repeated_job (length p.served.end.streams) one_turn p) node.shelves states).0 (after_reads (repeated_job (length p.served.end.streams) one_turn p) node.shelves states).1 (turns_go (length p.served.end.streams) p states (omega arith) through g))
       by false shut = record { so = g.so; idle = λ e. cc; rest = λ e. cc; one = λ e. cc; unstated = λ e. cc; unread = λ e. cc; full = λ e. shut; opens = λ e. ⊎_elim (λ i. cc) (λ w. cc) e }
 
-  frames_go : (k : ℕ) (p : Pulling) (states : States) → Goes states p → Frames (after (repeated k one_frame p) states)
+  frames_go : (k : ℕ) (p : Pulling) (states : States) → Goes states p → Frames (after_reads (repeated_job k one_frame p) node.shelves states)
   frames_go zero p states g = g
   frames_go (suc k) p states g =
-      subst Frames (sym (after_bind (repeated k one_frame p) (go_on one_frame) states))
-      (by (after (repeated k one_frame p) states).0 (after (repeated k one_frame p) states).1 (frames_go k p states g))
+      subst Frames (sym (after_reads_bind (repeated_job k one_frame p) (go_on_job one_frame) node.shelves states))
+      (by (after_reads (repeated_job k one_frame p) node.shelves states).0 (after_reads (repeated_job k one_frame p) node.shelves states).1 (frames_go k p states g))
     where
-      by : (states' : States) (x : Turn Pulling (Served × Halt)) → Frames (states', x) → Frames (after (go_on one_frame x) states')
+      by : (states' : States) (x : Turn Pulling (Served × Halt)) → Frames (states', x) → Frames (after_reads (go_on_job one_frame x) node.shelves states')
       by states' (More q) d = frame_goes q states' d
       by states' (Stop stopped) d = d
 
@@ -187,13 +193,13 @@ module _ (takes : TakesSnapshots) (exactly : TakesExactly) (w : PlainWorld) (r :
   abbrev pub Ends : States × (Served × Halt) → Type 0
   Ends x = Stopped x.0 x.1.0 x.1.1
 
-  pub pull_ends : (k : ℕ) (s : Served) (states : States) → SoFar w r cl n c node session states s → Ends (after (frames_put k s) states)
+  pub pull_ends : (k : ℕ) (s : Served) (states : States) → SoFar w r cl n c node session states s → Ends (after_reads (frames_put k s) node.shelves states)
   unfolding frames_put
   pull_ends k s states g =
       let p : Pulling = pull_of s none_quiet in
-      subst Ends (sym (after_bind (repeated k one_frame p) pulled states))
-      (by (after (repeated k one_frame p) states).0 (after (repeated k one_frame p) states).1 (frames_go k p states (record { so = g; saves = false; waits_is = refl; still = λ none u i quiet. let z : true ≡ false = sym quiet in cc; rest = λ u i quiet. let z : true ≡ false = sym quiet in cc; one = λ waits. cc })))
+      subst Ends (sym (after_reads_bind (repeated_job k one_frame p) pulled node.shelves states))
+      (by (after_reads (repeated_job k one_frame p) node.shelves states).0 (after_reads (repeated_job k one_frame p) node.shelves states).1 (frames_go k p states (record { so = g; saves = false; waits_is = refl; still = λ none u i quiet. let z : true ≡ false = sym quiet in cc; rest = λ u i quiet. let z : true ≡ false = sym quiet in cc; one = λ waits. cc })))
     where
-      by : (states' : States) (x : Turn Pulling (Served × Halt)) → Frames (states', x) → Ends (after (pulled x) states')
+      by : (states' : States) (x : Turn Pulling (Served × Halt)) → Frames (states', x) → Ends (after_reads (pulled x) node.shelves states')
       by states' (More p) d = record { so = d.so; idle = λ e. cc; rest = λ e. cc; one = λ e. cc; unstated = λ e. cc; unread = λ e. cc; full = λ e. cc; opens = λ e. ⊎_elim (λ i. cc) (λ w. cc) e }
       by states' (Stop stopped) d = d

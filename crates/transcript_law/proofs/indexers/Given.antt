@@ -1,9 +1,9 @@
 -- a client's stream that has no cursor is given one where its changes come from memory: of that no line tells
 use Rattle.std.specs.Prelude.{◌≡◌, if◌then◌else◌}
-use Rattle.transcript_law.proofs.Words.{ℕ, true, false, refl, sym, ap, ◌∙◌, subst, inl, Some, eq-eqb, ne_eqb, Chronicle, Cluster, Plain, PlainNode, PlainStream, PlainWorld, Served, States, Stream, More, Stop, Turn, after, map, stream_at, with_vb_at}
+use Rattle.transcript_law.proofs.Words.{ℕ, true, false, refl, sym, ap, ◌∙◌, subst, inl, Some, None, eq-eqb, ne_eqb, Chronicle, Cluster, Plain, PlainNode, PlainStream, PlainWorld, Served, States, Stream, More, Stop, Turn, map, stream_at, with_vb_at}
 use Rattle.client_session.specs.Serving.{PlainSession}
 use Rattle.dcp_producer.specs.Frames.{place_requested, place_said, placed_next}
-use Rattle.dcp_producer.specs.Pulling.{Pulling, QuietOnes}
+use Rattle.dcp_producer.specs.Pulling.{Pulling, QuietOnes, Halting}
 use Rattle.flow_control.specs.Windows.{is_open as lets_through}
 use Rattle.node_core.specs.Clients.{PlainClient}
 use Rattle.std.proofs.lemmas.Bool.{leb-true}
@@ -12,6 +12,7 @@ use Rattle.transcript_law.proofs.invariant.{Agreement.{AgreesIn, idle, vb_of}, C
 use Rattle.vb_calls.proofs.Placing.{given_again, given_here, given_there, with_cursor}
 use Rattle.vb_calls.specs.Streams.{given_cursor, is_in_memory}
 use Rattle.vbucket.proofs.Fed.{feeds_given}
+use Rattle.vb_calls.specs.Jobs.{after_reads}
 
 module _ (w : PlainWorld) (r : Chronicle) (cl : Cluster) (n c : ℕ) (node : PlainNode) (session : PlainSession) (states : States) (s : Served) (g : SoFar w r cl n c node session states s) (q : QuietOnes) (t : PlainStream) (i : Among t s.end.streams) (through : lets_through s.end.window ≡ true) (going : t.ended ≡ false) where
   abbrev here : Chronicle
@@ -70,6 +71,9 @@ module _ (w : PlainWorld) (r : Chronicle) (cl : Cluster) (n c : ℕ) (node : Pla
           over = is.over;
           ended = is.ended;
           gives = is.gives;
+          shows = is.shows;
+          put_place = is.put_place;
+          none_unread = is.none_unread;
           fits = is.fits;
           next_in = is.next_in;
           started = is.started;
@@ -108,15 +112,16 @@ module _ (w : PlainWorld) (r : Chronicle) (cl : Cluster) (n c : ℕ) (node : Pla
     given_so_far = record { rests = g.rests; lines = g.lines; tells = g.tells; pairs = g.pairs; lawful = g.lawful; agrees = agrees_then }
 
     -- what a turn comes to then, it comes to
-    pub turn_given : (came : States × Turn Pulling Pulling) → TurnSoFar w r cl n c node session given_states s given_so_far q t came → TurnSoFar w r cl n c node session states s g q t came
+    pub turn_given : (came : States × Turn Pulling Halting) → TurnSoFar w r cl n c node session given_states s given_so_far q t came → TurnSoFar w r cl n c node session states s g q t came
     turn_given (left, More p) y = record { so = y.so; read_is = y.read_is; same = y.same; waits = y.waits; quiet_is = y.quiet_is; quiet = y.quiet; waiting = y.waiting }
-    turn_given (left, Stop p) (y, quiet) = (record { so = y.so; bytes = y.bytes; line = y.line; header = y.header; read_is = y.read_is; others = y.others; stay = y.stay }, quiet)
+    turn_given (left, Stop (p, Some halted)) y = absurd y
+    turn_given (left, Stop (p, None)) (y, quiet) = (record { so = y.so; bytes = y.bytes; line = y.line; header = y.header; read_is = y.read_is; others = y.others; stay = y.stay }, quiet)
 
     -- and its vBucket is asked as before it
-    pub asked_given : after (place_requested s.end.desk.stream t) given_states ≡ after (place_requested s.end.desk.stream t) states
+    pub asked_given : after_reads (place_requested s.end.desk.stream t) node.shelves given_states ≡ after_reads (place_requested s.end.desk.stream t) node.shelves states
     asked_given =
         let again = given_again states t.vb t.id x.vb x.stream there_is x.opened none near in
-        λ j. after (placed_next s.end.desk.stream t (place_said (again j).1)) (again j).0
+        λ j. after_reads (placed_next s.end.desk.stream t (place_said (again j).1)) node.shelves (again j).0
 
     -- it has one then
     pub has_given : (opens w r cl n c node session given_states s given_so_far q t i through going).stream.cursor ≡ true

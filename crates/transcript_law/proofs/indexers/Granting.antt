@@ -8,6 +8,8 @@ use Rattle.vbucket.proofs.Fed.{feeds_opened}
 use Rattle.dcp_producer.specs.Serving.{gives_of, new_stream as kept_stream}
 use Rattle.transcript_law.proofs.invariant.{Agreement.{VbAgrees, top}, Bounded.{SoundCluster}, Carried.{sound_streams}, Carrying.{StreamsChanged}, ClientsTold.{PlaceIs, StreamIs}, Holdings.{ChangeFits, IsWriterIf}}
 use Rattle.transcript_law.specs.{ClientFrames.{Request, is_sync}, ClientStreams.{new_stream as known_stream, stream_view}, StreamsTold.{ClientStream, Setup}}
+use Rattle.transcript_law.proofs.invariant.NoneUnread.{none_source}
+use Rattle.vb_calls.specs.Streams.{asked_stream, is_in_memory, source_of}
 
 -- ---- its vBucket
 
@@ -105,7 +107,7 @@ module _ (r : Chronicle) (k : Cluster) (sound : SoundCluster top k) (n v p : ℕ
 
     -- and as the producer keeps it
     abbrev pub granted_kept : PlainStream
-    granted_kept = kept_stream id f ask
+    granted_kept = kept_stream id f ask sync (source_of pv (asked_stream id ask sync))
 
     pub granted_is : (held : List Change) (now : Option Plain) → now ≡ Some (opened pv id ask sync) → StreamIs r.tree (r.branch_at n v) held now granted_known granted_kept
     granted_is held now there = record {
@@ -116,6 +118,9 @@ module _ (r : Chronicle) (k : Cluster) (sound : SoundCluster top k) (n v p : ℕ
       over = refl;
       ended = refl;
       gives = ap gives_of plain;
+      shows = syncs;
+      put_place = refl;
+      none_unread = none_source (is_in_memory pv ask.start);
       fits = All-nil ChangeFits;
       next_in = omega arith;
       started = refl;

@@ -79,6 +79,9 @@ module _ (tree : List Branch) (on : Option ℕ) (held : List Change) (pv : Optio
     over = si.over;
     ended = si.ended;
     gives = si.gives;
+    shows = si.shows;
+    put_place = si.put_place;
+    none_unread = si.none_unread;
     fits = si.fits;
     next_in = let l = found_below t.items t.next x e in omega (arith, l);
     started = item_started g.last si.started;

@@ -156,6 +156,9 @@ module _ (w : PlainWorld) (r : Chronicle) (cl : Cluster) (a : AgreesIn idle w r 
     over = si.over;
     ended = si.ended;
     gives = si.gives;
+    shows = si.shows;
+    put_place = refl;
+    none_unread = si.none_unread;
     fits = fit;
     next_in = omega arith;
     started = above_start g.last si.started;

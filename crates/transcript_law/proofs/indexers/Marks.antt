@@ -1,13 +1,13 @@
 -- a client's stream takes its next snapshot of its vBucket, and puts its marker, or waits
 use Rattle.std.specs.Prelude.{◌≡◌, ◌≤◌, ◌<◌, ◌^◌, ◌++◌, ◌∷◌, ◌==◌, if◌then◌else◌, slice_get}
-use Rattle.transcript_law.proofs.Words.{ℕ, StreamName, Change, Bool, true, false, List, [], length, refl, sym, ap, ◌∙◌, subst, Option, Some, None, arith, eq-eqb, eqb-true, ne_eqb, Chronicle, Cluster, Event, Frame, Plain, PlainNode, PlainStream, PlainWorld, STATE_CHANGED, Served, Snapshot, Span, States, Stream, TakesSnapshots, Done, after, all_spans, end_span, plain_step, spelling, after_lines, stream_at, Sound, take_from, take_to, with_vb_at, VbReply}
+use Rattle.transcript_law.proofs.Words.{ℕ, StreamName, Change, Bool, true, false, List, [], length, refl, sym, ap, ◌∙◌, subst, Option, Some, None, arith, eq-eqb, eqb-true, ne_eqb, Chronicle, Cluster, Event, Frame, Plain, PlainNode, PlainStream, PlainWorld, STATE_CHANGED, Served, Snapshot, Span, States, Stream, TakesSnapshots, after, all_spans, end_span, plain_step, spelling, after_lines, stream_at, Sound, take_from, take_to, with_vb_at, VbReply}
 use Rattle.client_session.specs.Serving.{PlainSession}
 unfoldable use Rattle.mcbp_dcp.specs.DcpFrames.{dcp_frame}
 unfoldable use Rattle.dcp_producer.specs.Frames.{next_frame}
 use Rattle.mcbp_dcp.specs.declared.message.DcpMsg.TheVariants as msg
 use Rattle.dcp_producer.specs.declared.next_frame.Waits.{Waits}
 use Rattle.dcp_producer.specs.Firsts.{as_sent}
-use Rattle.dcp_producer.specs.Frames.{Next, alive_next, none_next, close_sent, marker_flags, marker_next, next_by, over, place_requested, place_said, placed_next, quiet, reaches_end, take_answered, taken_next, with_snapshot}
+use Rattle.dcp_producer.specs.Frames.{Next, alive_next, none_next, close_sent, marker_flags, marker_next, next_by, over, place_requested, place_said, placed_next, quiet, reaches_end, take_answered, taken_next, with_snapshot, changes_next}
 use Rattle.dcp_producer.specs.Pulling.{QuietOnes, came, frame_put, stream_went}
 use Rattle.dcp_producer.specs.declared.desk.Desk.{Desk}
 use Rattle.dcp_producer.specs.declared.next_frame.NextFrame.{NextFrame}
@@ -25,6 +25,7 @@ use Rattle.vb_events.specs.declared.event.Event.TheVariants as event
 use Rattle.vb_events.specs.declared.event.StreamName.TheVariants as name
 use Rattle.vbucket.proofs.Fed.{feeds_moved}
 use Rattle.vbucket.specs.Takes.{IsSnapshot, TakesExactly}
+use Rattle.vb_calls.specs.Jobs.{Ended, after_reads}
 
 -- ---- states that are the same
 
@@ -135,19 +136,19 @@ module _ (w : PlainWorld) (r : Chronicle) (cl : Cluster) (n c : ℕ) (node : Pla
     -- the vBucket was asked where the stream's changes come from
     abbrev Placed : Bool → Bool → States × Next
     Placed has near =
-        after (placed_next s.end.desk.stream t (place_said (Some (placed_by has near x.stream x.vb).1))) (with_vb_at states t.vb (placed_by has near x.stream x.vb).0)
+        after_reads (placed_next s.end.desk.stream t (place_said (Some (placed_by has near x.stream x.vb).1))) node.shelves (with_vb_at states t.vb (placed_by has near x.stream x.vb).0)
 
-    placed_turn : after (place_requested s.end.desk.stream t) states ≡ Placed x.stream.cursor (is_in_memory x.vb x.stream.place)
+    placed_turn : after_reads (place_requested s.end.desk.stream t) node.shelves states ≡ Placed x.stream.cursor (is_in_memory x.vb x.stream.place)
     placed_turn =
-        ap (λ o. after (placed_next s.end.desk.stream t (place_said (call_at states t.vb (Place t.id) o).1)) (call_at states t.vb (Place t.id) o).0) there_is
-        ∙ ap (λ o. after (placed_next s.end.desk.stream t (place_said (Some (place_from o x.vb).1))) (with_vb_at states t.vb (place_from o x.vb).0)) x.opened
+        ap (λ o. after_reads (placed_next s.end.desk.stream t (place_said (call_at states t.vb (Place t.id) o).1)) node.shelves (call_at states t.vb (Place t.id) o).0) there_is
+        ∙ ap (λ o. after_reads (placed_next s.end.desk.stream t (place_said (Some (place_from o x.vb).1))) node.shelves (with_vb_at states t.vb (place_from o x.vb).0)) x.opened
 
     -- it has no cursor, and not all of them are in memory: the stream waits
-    waited_turn : x.stream.cursor ≡ false → is_in_memory x.vb x.stream.place ≡ false → after (place_requested s.end.desk.stream t) states ≡ (with_vb_at states t.vb x.vb, quiet Waits.Saved t)
+    waited_turn : x.stream.cursor ≡ false → is_in_memory x.vb x.stream.place ≡ false → after_reads (place_requested s.end.desk.stream t) node.shelves states ≡ (with_vb_at states t.vb x.vb, quiet Waits.Saved t)
     waited_turn none far = placed_turn ∙ (λ j. Placed (none j) (far j))
 
     -- it has one: it was asked for the next snapshot
-    asked_turn : x.stream.cursor ≡ true → after (place_requested s.end.desk.stream t) states ≡ taken_turn (take_to (end_span x.stream (all_spans x.vb.spans) x.vb.held) x.stream x.vb)
+    asked_turn : x.stream.cursor ≡ true → after_reads (place_requested s.end.desk.stream t) node.shelves states ≡ taken_turn (take_to (end_span x.stream (all_spans x.vb.spans) x.vb.held) x.stream x.vb)
     asked_turn near =
         let first : States = with_vb_at states t.vb x.vb in
         placed_turn
@@ -177,7 +178,7 @@ module _ (w : PlainWorld) (r : Chronicle) (cl : Cluster) (n c : ℕ) (node : Pla
         subst (WaitsSaved here n t.vb) one (waiting_stream now here cl g.agrees n t.vb k.g t k.is x exactly going whole unreached far)
 
     -- what comes behind the items of the snapshot that was taken last, where the stream has a cursor or is given none
-    pub place_turn : (x.stream.cursor ≡ false → is_in_memory x.vb x.stream.place ≡ false) → TakesSnapshots → TakesExactly → length t.items ≤ t.next → reaches_end t.until t.marked ≡ false → Arrives (after (place_requested s.end.desk.stream t) states)
+    pub place_turn : (x.stream.cursor ≡ false → is_in_memory x.vb x.stream.place ≡ false) → TakesSnapshots → TakesExactly → length t.items ≤ t.next → reaches_end t.until t.marked ≡ false → Arrives (after_reads (place_requested s.end.desk.stream t) node.shelves states)
     place_turn ready takes exactly whole unreached = in_memory x.stream.cursor refl
       where
         by : x.stream.cursor ≡ true → (o : Option Span) → end_span x.stream (all_spans x.vb.spans) x.vb.held ≡ o → Arrives (taken_turn (take_to o x.stream x.vb))
@@ -187,7 +188,7 @@ module _ (w : PlainWorld) (r : Chronicle) (cl : Cluster) (n c : ℕ) (node : Pla
             subst (λ vb. Arrives (with_vb_at (with_vb_at states t.vb x.vb) t.vb vb, marker_next s.end.desk.stream t (as_sent t (span_snapshot x.vb x.stream win)))) (sym moved)
             (marker_turn stop (span_snapshot x.vb x.stream win) is ((vb_agrees w r cl n c node session states s g q t i through going).sound.feeds.cursors t.id x.stream x.opened near) refl whole unreached)
 
-        in_memory : (b : Bool) → x.stream.cursor ≡ b → Arrives (after (place_requested s.end.desk.stream t) states)
+        in_memory : (b : Bool) → x.stream.cursor ≡ b → Arrives (after_reads (place_requested s.end.desk.stream t) node.shelves states)
         in_memory false none = subst Arrives (sym (waited_turn none (ready none))) (quiet_turn true (with_vb_at states t.vb x.vb) once (λ e. cc) (λ e. waits_now exactly whole unreached (ready none)))
         in_memory true near = subst Arrives (sym (asked_turn near)) (by near (end_span x.stream (all_spans x.vb.spans) x.vb.held) refl)
 
@@ -200,36 +201,36 @@ module _ (w : PlainWorld) (r : Chronicle) (cl : Cluster) (n c : ℕ) (node : Pla
     open_one = opens w r cl n c node session states s g q t i through going
 
     -- or it is given one first
-    any_turn : TakesSnapshots → TakesExactly → length t.items ≤ t.next → reaches_end t.until t.marked ≡ false → Arriving (after (place_requested s.end.desk.stream t) states)
+    any_turn : TakesSnapshots → TakesExactly → length t.items ≤ t.next → reaches_end t.until t.marked ≡ false → Arriving (after_reads (place_requested s.end.desk.stream t) node.shelves states)
     any_turn takes exactly whole unreached = by open_one.stream.cursor (is_in_memory open_one.vb open_one.stream.place) refl refl
       where
-        by : (c' m : Bool) → open_one.stream.cursor ≡ c' → is_in_memory open_one.vb open_one.stream.place ≡ m → Arriving (after (place_requested s.end.desk.stream t) states)
+        by : (c' m : Bool) → open_one.stream.cursor ≡ c' → is_in_memory open_one.vb open_one.stream.place ≡ m → Arriving (after_reads (place_requested s.end.desk.stream t) node.shelves states)
         by true m has near = place_turn w r cl n c node session states s g q t i through going (λ none. let z : true ≡ false = sym has ∙ none in cc) takes exactly whole unreached
         by false false none far = place_turn w r cl n c node session states s g q t i through going (λ e. far) takes exactly whole unreached
         by false true none near =
             let states' : States = given_states w r cl n c node session states s g q t i through going none near in
             let g' : SoFar w r cl n c node session states' s = given_so_far w r cl n c node session states s g q t i through going none near in
-            let comes = after (place_requested s.end.desk.stream t) states' in
+            let comes = after_reads (place_requested s.end.desk.stream t) node.shelves states' in
             subst Arriving (asked_given w r cl n c node session states s g q t i through going none near)
             (turn_given w r cl n c node session states s g q t i through going none near (comes.0, came s q comes.1)
             (place_turn w r cl n c node session states' s g' q t i through going (λ e. let z : true ≡ false = sym (has_given w r cl n c node session states s g q t i through going none near) ∙ e in cc) takes exactly whole unreached))
 
     -- its end, or the next marker
-    going_turn : TakesSnapshots → TakesExactly → length t.items ≤ t.next → (b : Bool) → reaches_end t.until t.marked ≡ b → Arriving (after (if b then close_sent t else place_requested s.end.desk.stream t) states)
+    going_turn : TakesSnapshots → TakesExactly → length t.items ≤ t.next → (b : Bool) → reaches_end t.until t.marked ≡ b → Arriving (after_reads (if b then close_sent t else changes_next s.end.desk.stream t t.unread) node.shelves states)
     going_turn takes exactly whole true reached = reached_turn w r cl n c node session states s g q t i through going whole reached
-    going_turn takes exactly whole false unreached = any_turn takes exactly whole unreached
+    going_turn takes exactly whole false unreached = subst (λ o. Arriving (after_reads (changes_next s.end.desk.stream t o) node.shelves states)) (sym (known w r cl n c node session states s g q t i through).is.none_unread) (any_turn takes exactly whole unreached)
 
   -- behind the items: the stream's end, or the next marker
   more_turn : TakesSnapshots → TakesExactly → length t.items ≤ t.next → (b : Bool) → t.ended ≡ b
-      → Arriving (after (if b then Done (over STATE_CHANGED t) else alive_next s.end.desk.stream t t.gives) states)
+      → Arriving (after_reads (if b then Ended (over STATE_CHANGED t) else alive_next s.end.desk.stream t t.gives) node.shelves states)
   more_turn takes exactly whole true ended = ended_turn w r cl n c node session states s g q t i through ended whole
-  more_turn takes exactly whole false going = subst (λ o. Arriving (after (alive_next s.end.desk.stream t o) states)) (sym (feeds w r cl n c node session states s g q t i through)) (going_turn going takes exactly whole (reaches_end t.until t.marked) refl)
+  more_turn takes exactly whole false going = subst (λ o. Arriving (after_reads (alive_next s.end.desk.stream t o) node.shelves states)) (sym (feeds w r cl n c node session states s g q t i through)) (going_turn going takes exactly whole (reaches_end t.until t.marked) refl)
 
   -- the next frame of the stream
-  pub next_turn : TakesSnapshots → TakesExactly → Arriving (after (next_frame s.end.desk.stream t) states)
+  pub next_turn : TakesSnapshots → TakesExactly → Arriving (after_reads (next_frame s.end.desk.stream t) node.shelves states)
   unfolding next_frame
   next_turn takes exactly = by (slice_get t.items t.next) refl
     where
-      by : (o : Option Change) → slice_get t.items t.next ≡ o → Arriving (after (next_by s.end.desk.stream t o) states)
+      by : (o : Option Change) → slice_get t.items t.next ≡ o → Arriving (after_reads (next_by s.end.desk.stream t o) node.shelves states)
       by None e = more_turn takes exactly (not_found t.items t.next e) t.ended refl
       by (Some item) e = item_turn w r cl n c node session states s g q t i through item e

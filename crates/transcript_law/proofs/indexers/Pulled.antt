@@ -1,18 +1,21 @@
 -- a line `pull`: its lines are lawful, all agrees behind it, and where it is idle nothing more is to be put
 use Rattle.std.specs.Prelude.{◌≡◌, ◌⊎◌, ◌==◌, if◌then◌else◌}
-use Rattle.transcript_law.proofs.Words.{ℕ, true, false, [], refl, sym, ap, ◌∙◌, subst, inl, inr, ⊎_elim, Option, Some, None, eqb-true, Answer, Cause, Chronicle, Cluster, Done, Halt, LawfulFrom, PlainNode, PlainStream, PlainWorld, Served, States, TakesSnapshots, Told, Why, after, after_bind, after_lines, begun, on_node, why_of, with_client, with_node_at, with_states}
+use Rattle.transcript_law.proofs.Words.{ℕ, true, false, [], refl, sym, ap, ◌∙◌, subst, inl, inr, ⊎_elim, Option, Some, None, eqb-true, Answer, Cause, Chronicle, Cluster, Halt, LawfulFrom, PlainNode, PlainStream, PlainWorld, Served, States, TakesSnapshots, Told, Why, after_lines, begun, on_node, why_of, with_client, with_node_at, with_states}
 unfoldable use Rattle.dcp_producer.specs.Pulling.{frames_put}
 use Rattle.dcp_producer.specs.Producers.{stream_at as kept_at}
 use Rattle.flow_control.specs.Windows.{is_open as lets_through}
 use Rattle.mcbp_frame.specs.{Cutting.{frame_in}, Frames.{first_frame}}
 unfoldable use Rattle.node_core.specs.Clients.{with_replies}
 use Rattle.node_core.specs.Clients.{ClientPulled, PlainClient, client_pull, client_pulled}
-use Rattle.node_world.specs.Nodes.{pull_at, pull_if, pulled, with_conn}
+use Rattle.node_world.specs.Nodes.{pull_at, pull_if, with_conn}
 use Rattle.transcript_law.proofs.indexers.{Flows.{now_is}, Framed.{SoFar, WaitsNow, mine}, Fronts.{Stopped, pull_ends}, Moments.{served_is}, Owning.{stream_known}, Replied.{lawful_all, tells_all, tells_none}, Worlds.{client_here, world_with}}
 use Rattle.transcript_law.proofs.invariant.{Agreement.{Agrees, AgreesIn, GoesOn, idle, vb_of}, ClientsKept.{at_vb}, ClientsTold.{ClientAgrees, KeptIs}, OpenStreams.{Among, at_among}, Ranged.{IsRanged, NodeRanged, NodeRangedIf, SessionRangedIf}}
 use Rattle.transcript_law.proofs.verbs.NodeLines.{as_told, on_node_by, on_node_goes, refused_on}
 use Rattle.transcript_law.specs.{Asked.{ArePairs}, ClientFrames.{is_closed_by}, LawfulClients.{AllOpen, AllQuiet, AllRest, IsQuiet, OneWaits, WaitsSaved}, Questions.{flow_now, served_frames}, StreamsTold.{ClientStream}}
 use Rattle.vbucket.specs.Takes.{TakesExactly}
+use Rattle.vb_calls.proofs.JobReadings.{after_reads_bind}
+use Rattle.vb_calls.specs.Jobs.{Ended, after_reads}
+use Rattle.transcript_law.proofs.lines.Reads.{pull_is, pull_read}
 
 -- ---- the world with what it has
 
@@ -51,7 +54,7 @@ module _ (takes : TakesSnapshots) (exactly : TakesExactly) (w : PlainWorld) (r :
     first = record { rests = resting; lines = []; tells = tells_none n c; pairs = refl; lawful = λ more so. so; agrees = agrees_first }
 
     abbrev came : States × (Served × Halt)
-    came = after (frames_put frames (begun client.producer)) node.vbs
+    came = after_reads (frames_put frames (begun client.producer)) node.shelves node.vbs
 
     ends : Stopped takes exactly w r cl n c node client.session came.0 came.1.0 came.1.1
     ends = pull_ends takes exactly w r cl n c node client.session frames (begun client.producer) node.vbs first
@@ -60,22 +63,22 @@ module _ (takes : TakesSnapshots) (exactly : TakesExactly) (w : PlainWorld) (r :
     abbrev told : States × ClientPulled
     told = (came.0, client_pull client.session came.1)
 
-    told_is : after (client_pulled frames client) node.vbs ≡ told
-    told_is = after_bind (frames_put frames (begun client.producer)) (λ put. Done (client_pull client.session put)) node.vbs
+    told_is : after_reads (client_pulled frames client) node.shelves node.vbs ≡ told
+    told_is = after_reads_bind (frames_put frames (begun client.producer)) (λ put. Ended (client_pull client.session put)) node.shelves node.vbs
 
     lines_are : told.1.events ≡ ends.so.lines
     lines_are = (λ i. with_replies (own.conn.node i) (own.conn.number i) came.1.0.events came.1.0.out) ∙ tells_all n c came.1.0.events came.1.0.out ends.so.lines ends.so.tells
 
     abbrev Goes : States × ClientPulled → Type 0
-    Goes x = GoesOn r as_told (with_node_at w n (pulled c node x).0, (pulled c node x).1)
+    Goes x = GoesOn r as_told (with_node_at w n (pull_read c node x).0, (pull_read c node x).1)
 
     goes : Goes told
     goes = subst (λ lines. LawfulFrom r lines × Agrees (world_with w n c node came.0 (Some told.1.client)) (after_lines r lines)) (sym lines_are) (lawful_all r ends.so.lines ends.so.lawful, (cl, ends.so.agrees))
 
-    pub client_goes_on : Goes (after (client_pulled frames client) node.vbs)
+    pub client_goes_on : Goes (after_reads (client_pulled frames client) node.shelves node.vbs)
     client_goes_on = subst Goes (sym told_is) goes
 
-    pub client_pairs : ArePairs (after (client_pulled frames client) node.vbs).1.events
+    pub client_pairs : ArePairs (after_reads (client_pulled frames client) node.shelves node.vbs).1.events
     client_pairs = subst (λ (x : States × ClientPulled). ArePairs x.1.events) (sym told_is) (subst ArePairs (sym lines_are) ends.so.pairs)
 
     -- ---- an idle pull
@@ -161,19 +164,19 @@ module _ (takes : TakesSnapshots) (exactly : TakesExactly) (w : PlainWorld) (r :
     reads : Reads told
     reads k is = let disk : why_of came.1.1 ≡ Why.Disk = cc in ends.unread disk
 
-    pub client_reads : Reads (after (client_pulled frames client) node.vbs)
+    pub client_reads : Reads (after_reads (client_pulled frames client) node.shelves node.vbs)
     client_reads = subst Reads (sym told_is) reads
 
-    pub client_rests : Rests (after (client_pulled frames client) node.vbs)
+    pub client_rests : Rests (after_reads (client_pulled frames client) node.shelves node.vbs)
     client_rests = subst Rests (sym told_is) rests
 
-    pub client_shuts : Shuts (after (client_pulled frames client) node.vbs)
+    pub client_shuts : Shuts (after_reads (client_pulled frames client) node.shelves node.vbs)
     client_shuts = subst Shuts (sym told_is) shuts
 
-    pub client_waits : Waits (after (client_pulled frames client) node.vbs)
+    pub client_waits : Waits (after_reads (client_pulled frames client) node.shelves node.vbs)
     client_waits = subst Waits (sym told_is) waits
 
-    pub client_leaves : Leaves (after (client_pulled frames client) node.vbs)
+    pub client_leaves : Leaves (after_reads (client_pulled frames client) node.shelves node.vbs)
     client_leaves = subst Leaves (sym told_is) leaves
 
   -- by whether it is open
@@ -182,7 +185,7 @@ module _ (takes : TakesSnapshots) (exactly : TakesExactly) (w : PlainWorld) (r :
     where
       by : (o : Option PlainClient) → node.clients c ≡ o → GoesOn r as_told (with_node_at w n (pull_if c frames node o).0, (pull_if c frames node o).1)
       by None e = refused_on w r n node Cause.LinkClosed a known
-      by (Some client) e = client_goes_on client e
+      by (Some client) e = subst (λ (x : PlainNode × Told). GoesOn r as_told (with_node_at w n x.0, x.1)) (sym (pull_is c frames node (Some client))) (client_goes_on client e)
 
   abbrev pub LeavesQuiet : PlainNode × Told → Type 0
   LeavesQuiet x = (k : ℕ) → x.1.answer ≡ Answer.Pulled k Why.Idle → (let read = after_lines r x.1.events in AllQuiet read n (read.clients_at n c) × (lets_through (flow_now (read.clients_at n c)).window ≡ true))
@@ -195,21 +198,21 @@ module _ (takes : TakesSnapshots) (exactly : TakesExactly) (w : PlainWorld) (r :
     where
       by : (o : Option PlainClient) → node.clients c ≡ o → ShutsAsTold (pull_if c frames node o)
       by None e = λ k is. cc
-      by (Some client) e = client_shuts client e
+      by (Some client) e = subst ShutsAsTold (sym (pull_is c frames node (Some client))) (client_shuts client e)
 
   pub pull_at_rests : (k : ℕ) → (pull_at c frames node).1.answer ≡ Answer.Pulled k Why.WaitState → ⊥
   pull_at_rests k = by (node.clients c) refl
     where
       by : (o : Option PlainClient) → node.clients c ≡ o → (pull_if c frames node o).1.answer ≡ Answer.Pulled k Why.WaitState → ⊥
       by None e = λ is. cc
-      by (Some client) e = client_rests client e k
+      by (Some client) e = subst (λ (x : PlainNode × Told). x.1.answer ≡ Answer.Pulled k Why.WaitState → ⊥) (sym (pull_is c frames node (Some client))) (client_rests client e k)
 
   pub pull_at_reads : (k : ℕ) → (pull_at c frames node).1.answer ≡ Answer.Pulled k Why.Disk → ⊥
   pull_at_reads k = by (node.clients c) refl
     where
       by : (o : Option PlainClient) → node.clients c ≡ o → (pull_if c frames node o).1.answer ≡ Answer.Pulled k Why.Disk → ⊥
       by None e = λ is. cc
-      by (Some client) e = client_reads client e k
+      by (Some client) e = subst (λ (x : PlainNode × Told). x.1.answer ≡ Answer.Pulled k Why.Disk → ⊥) (sym (pull_is c frames node (Some client))) (client_reads client e k)
 
   abbrev pub WaitsAsTold : PlainNode × Told → Type 0
   WaitsAsTold x = (k : ℕ) → x.1.answer ≡ Answer.Pulled k Why.WaitSaved → (let read = after_lines r x.1.events in AllRest read n (read.clients_at n c) × OneWaits read n (read.clients_at n c) × (lets_through (flow_now (read.clients_at n c)).window ≡ true))
@@ -219,14 +222,14 @@ module _ (takes : TakesSnapshots) (exactly : TakesExactly) (w : PlainWorld) (r :
     where
       by : (o : Option PlainClient) → node.clients c ≡ o → WaitsAsTold (pull_if c frames node o)
       by None e = λ k is. cc
-      by (Some client) e = client_waits client e
+      by (Some client) e = subst WaitsAsTold (sym (pull_is c frames node (Some client))) (client_waits client e)
 
   pub pull_at_leaves : LeavesQuiet (pull_at c frames node)
   pull_at_leaves = by (node.clients c) refl
     where
       by : (o : Option PlainClient) → node.clients c ≡ o → LeavesQuiet (pull_if c frames node o)
       by None e = λ k is. cc
-      by (Some client) e = client_leaves client e
+      by (Some client) e = subst LeavesQuiet (sym (pull_is c frames node (Some client))) (client_leaves client e)
 
 at_node : (w : PlainWorld) (n : ℕ) (node : PlainNode) → IsRanged w → w.nodes n ≡ Some node → NodeRanged n node
 at_node w n node ranged known = subst (NodeRangedIf n) known (ranged n)
@@ -243,7 +246,7 @@ pull_pairs takes exactly w r n c frames ranged a =
   where
     by : (node : PlainNode) → w.nodes n ≡ Some node → (o : Option PlainClient) → node.clients c ≡ o → ArePairs (pull_if c frames node o).1.events
     by node known None e = refl
-    by node known (Some client) e = client_pairs takes exactly w r n c frames node a known (at_node w n node ranged known) client e
+    by node known (Some client) e = subst (λ (x : PlainNode × Told). ArePairs x.1.events) (sym (pull_is c frames node (Some client))) (client_pairs takes exactly w r n c frames node a known (at_node w n node ranged known) client e)
 
 -- one that is idle left nothing to put
 pub pull_leaves : TakesSnapshots → TakesExactly → (w : PlainWorld) (r : Chronicle) (n c frames k : ℕ) → IsRanged w → Agrees w r

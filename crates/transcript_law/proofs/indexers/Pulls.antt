@@ -1,10 +1,10 @@
 -- frames of a client's streams, one after the other: the lines so far are lawful, all agrees, and what was quiet is so still
 use Rattle.std.specs.Prelude.{◌≡◌, ◌==◌, ◌||◌, if◌then◌else◌}
-use Rattle.transcript_law.proofs.Words.{ℕ, Bool, true, false, List, refl, sym, ap, ◌∙◌, subst, inl, inr, ⊎_elim, Option, Some, None, eq-eqb, eqb-true, Chronicle, Cluster, Done, More, PlainNode, PlainProducer, PlainStream, PlainWorld, Served, States, Stop, TakesSnapshots, Turn, after, after_bind, after_lines}
+use Rattle.transcript_law.proofs.Words.{ℕ, Bool, true, false, List, refl, sym, ap, ◌∙◌, subst, inl, inr, ⊎_elim, Option, Some, None, eq-eqb, eqb-true, Chronicle, Cluster, More, PlainNode, PlainProducer, PlainStream, PlainWorld, Served, States, Stop, TakesSnapshots, Turn, after_lines}
 use Rattle.client_session.specs.Serving.{PlainSession}
 unfoldable use Rattle.dcp_producer.specs.Frames.{next_frame}
 unfoldable use Rattle.dcp_producer.specs.Pulling.{one_turn}
-use Rattle.dcp_producer.specs.Pulling.{Pulling, QuietOnes, came, first_wait, is_quiet, past_turn, pull_of, stream_asked, stream_in, stream_in_turn, turn_had, with_quiet}
+use Rattle.dcp_producer.specs.Pulling.{Pulling, QuietOnes, came, first_wait, is_quiet, past_turn, pull_of, stream_asked, stream_in, stream_in_turn, turn_had, with_quiet, Halting}
 use Rattle.dcp_producer.specs.Producers.{stream_at as kept_at}
 use Rattle.dcp_producer.proofs.Awake.{quiet_more}
 use Rattle.flow_control.specs.Windows.{is_open as lets_through}
@@ -12,6 +12,8 @@ use Rattle.transcript_law.proofs.indexers.{Framed.{both_wait, wait_of, IsQuietNo
 use Rattle.transcript_law.proofs.invariant.{ClientsTold.{ClientAgrees}, OpenStreams.{Among, at_among, id_among}}
 use Rattle.transcript_law.specs.{LawfulClients.{IsQuiet, WaitsSaved}, LinesTold.{OwnChange}, StreamsTold.{ClientStream, ClientsKnown}}
 use Rattle.vbucket.specs.Takes.{TakesExactly}
+use Rattle.vb_calls.proofs.JobReadings.{after_reads_bind}
+use Rattle.vb_calls.specs.Jobs.{Ended, after_reads}
 
 or_false : (a b : Bool) → (a || b) ≡ false → (a ≡ false) × (b ≡ false)
 or_false true b e = cc
@@ -59,9 +61,10 @@ module _ (takes : TakesSnapshots) (exactly : TakesExactly) (w : PlainWorld) (r :
     pub asked : (t : PlainStream) → stream_in_turn p.served.end ≡ Some t → is_quiet t.id p'.quiet ≡ true
     pub more : (id : ℕ) → is_quiet id p.quiet ≡ true → is_quiet id p'.quiet ≡ true
 
-  abbrev pub Came : Pulling → States × Turn Pulling Pulling → Type 0
+  abbrev pub Came : Pulling → States × Turn Pulling Halting → Type 0
   Came p (states', More p') = Went p p' states'
-  Came p (states', Stop p') = Pulled states' p'
+  Came p (states', Stop (p', None)) = Pulled states' p'
+  Came p (states', Stop (p', Some halted)) = ⊥
 
   module _ (states : States) (p : Pulling) (g : Pulled states p) where
     open p use {served as s, quiet as q}
@@ -193,17 +196,18 @@ module _ (takes : TakesSnapshots) (exactly : TakesExactly) (w : PlainWorld) (r :
             let same : u.id ≡ t.id = sym (eqb-true t.id u.id (or_true (is_quiet u.id q) (t.id == u.id) was e)) in
             subst (λ x. IsQuietNow w r cl n c node session (read w r cl n c node session states s g.so) x) (sym (same_number s.end.streams u t own.kept.rise k i same)) (went.quiet parts.1)
 
-    asked_goes : (p : Pulling) → s ≡ past_turn p.served → q ≡ p.quiet → stream_in_turn p.served.end ≡ Some t → Came p (after (stream_asked s q t) states)
+    asked_goes : (p : Pulling) → s ≡ past_turn p.served → q ≡ p.quiet → stream_in_turn p.served.end ≡ Some t → Came p (after_reads (stream_asked s q t) node.shelves states)
     asked_goes p behind quiet in_turn =
-        subst (Came p) (sym (after_bind (next_frame s.end.desk.stream t) (λ next. Done (came s q next)) states))
-        (by (after (next_frame s.end.desk.stream t) states).0 (came s q (after (next_frame s.end.desk.stream t) states).1) (next_turn w r cl n c node session states s g.so q t i through takes exactly))
+        subst (Came p) (sym (after_reads_bind (next_frame s.end.desk.stream t) (λ next. Ended (came s q next)) node.shelves states))
+        (by (after_reads (next_frame s.end.desk.stream t) node.shelves states).0 (came s q (after_reads (next_frame s.end.desk.stream t) node.shelves states).1) (next_turn w r cl n c node session states s g.so q t i through takes exactly))
       where
-        by : (states' : States) (x : Turn Pulling Pulling) → TurnSoFar w r cl n c node session states s g.so q t (states', x) → Came p (states', x)
+        by : (states' : States) (x : Turn Pulling Halting) → TurnSoFar w r cl n c node session states s g.so q t (states', x) → Came p (states', x)
         by states' (More p') went = quiet_went states' p' went p behind quiet in_turn
-        by states' (Stop p') put = put_pulled states' p' put.0 put.1
+        by states' (Stop (p', None)) put = put_pulled states' p' put.0 put.1
+        by states' (Stop (p', Some halted)) put = absurd put
 
   -- one turn of the connection
-  pub one_goes : (states : States) (p : Pulling) → Pulled states p → lets_through p.served.end.window ≡ true → Came p (after (one_turn p) states)
+  pub one_goes : (states : States) (p : Pulling) → Pulled states p → lets_through p.served.end.window ≡ true → Came p (after_reads (one_turn p) node.shelves states)
   unfolding one_turn
   one_goes states p g through = by (stream_in_turn p.served.end) refl
     where
@@ -211,7 +215,7 @@ module _ (takes : TakesSnapshots) (exactly : TakesExactly) (w : PlainWorld) (r :
       behind = past states p g
 
       whether : (t : PlainStream) → stream_in_turn p.served.end ≡ Some t → (b : Bool) → is_quiet t.id p.quiet ≡ b
-          → Came p (after (if b then Done (More (pull_of (past_turn p.served) p.quiet)) else stream_asked (past_turn p.served) p.quiet t) states)
+          → Came p (after_reads (if b then Ended (More (pull_of (past_turn p.served) p.quiet)) else stream_asked (past_turn p.served) p.quiet t) node.shelves states)
       whether t e true quiet = record {
         pulled = behind;
         end_is = refl;
@@ -220,6 +224,6 @@ module _ (takes : TakesSnapshots) (exactly : TakesExactly) (w : PlainWorld) (r :
       }
       whether t e false awake = asked_goes states (past_turn p.served) p.quiet behind t (in_streams p.served.end t e) awake through p refl refl e
 
-      by : (o : Option PlainStream) → stream_in_turn p.served.end ≡ o → Came p (after (turn_had (past_turn p.served) p.quiet o) states)
+      by : (o : Option PlainStream) → stream_in_turn p.served.end ≡ o → Came p (after_reads (turn_had (past_turn p.served) p.quiet o) node.shelves states)
       by None e = record { pulled = behind; end_is = refl; asked = λ t f. let z : None ≡ Some t = sym e ∙ f in cc; more = λ id was. was }
       by (Some t) e = whether t e (is_quiet t.id p.quiet) refl

@@ -227,13 +227,16 @@ pub record IsEndless (stream : PlainStream) : Type 0 where
   pub until : top < stream.until
   pub marked : IsLow stream.marked
 
--- a stream of the vBucket vb as its producer keeps it: it is the one that the lines tell, was marked exactly where they tell of a marker, and is of the branch that its consumer's member is fed with
-pub record PutAgrees (o vb : ℕ) (ask : StreamAsk) (log : List LogEntry) (begun : Option Begun) (stream : PlainStream) (u : ℕ) (fed : List LogEntry) : Type 0 where
+-- a stream of the vBucket vb as its producer keeps it: it is the one that the lines tell, was marked exactly where they tell of a marker, up to the place that they tell, and is of the branch that its consumer's member is fed with; no backfill of it is to be read
+pub record PutAgrees (o vb : ℕ) (ask : StreamAsk) (place : ℕ) (log : List LogEntry) (begun : Option Begun) (stream : PlainStream) (u : ℕ) (fed : List LogEntry) : Type 0 where
   pub vb_is : stream.vb ≡ vb
   pub opaque_is : stream.opaque ≡ o
   pub no_end : IsEndless stream
   pub first_is : stream.first ≡ first_of ask
   pub marked_is : is_some stream.marked ≡ is_some begun
+  pub sync_is : stream.sync ≡ true
+  pub put_place : stream.place ≡ place
+  pub none_unread : stream.unread ≡ None
   pub fits : All ChangeFits stream.items
   pub next_in : stream.next ≤ length stream.items
   pub last : BegunAgrees begun stream
@@ -252,7 +255,7 @@ pub record WayIs (place : ℕ) (told : List (ℕ × ℕ)) (begun : Bool) (flight
 
 -- a stream that was let continue: what the lines tell of it, what its producer keeps of it, and what its consumer has of it
 pub record StreamAgrees (o vb : ℕ) (g : Granted) (stream : PlainStream) (pv : Option Plain) (leader : Member) (feed : Feed) (kn : Member) (in_one : Bool) (h : Handing) : Type 0 where
-  pub put : PutAgrees o vb g.ask g.log g.last stream feed.u feed.log
+  pub put : PutAgrees o vb g.ask g.place g.log g.last stream feed.u feed.log
   pub open put use *
   pub opens : stream.ended ≡ false → Open stream.id g pv leader feed h
   pub given_in : GivenIn h feed.given g.place

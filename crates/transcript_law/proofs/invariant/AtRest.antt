@@ -160,7 +160,7 @@ link_still w ranged all l end f kept = on_link_all Still IsTimely still_steps (�
 pub still_ran : {A : Type 0} (prog : Prog A) (states : States) → Makes IsTimely prog → AllAt Still states → AllAt Still (after prog states).0
 still_ran prog states makes all = ran Still IsTimely still_steps (λ id. tt) prog states makes all
 
-still_job : {A : Type 0} (one : Job A) (states : States) (shelves : Shelves) → MakesJob IsTimely one → AllAt Still states → AllAt Still (after_job one states shelves).0.0
+pub still_job : {A : Type 0} (one : Job A) (states : States) (shelves : Shelves) → MakesJob IsTimely one → AllAt Still states → AllAt Still (after_job one states shelves).0.0
 still_job one states shelves makes all = ran_job Still IsTimely still_steps (λ id. tt) (λ v made. IsTimely made) (λ v ask. Unit {0}) (λ a. Unit {0}) (λ v made k. k) one states shelves makes all
 
 -- clients
@@ -176,7 +176,7 @@ pull_still n c frames node ranged all = by (node.clients c)
   where
     by : (o : Option PlainClient) → AllAt Still (pull_if c frames node o).0.vbs
     by None = all
-    by (Some client) = still_ran (client_pulled frames client) node.vbs (pull_tame frames client) all
+    by (Some client) = still_job (client_pulled frames client) node.vbs node.shelves (pull_tame frames client) all
 
 pub hang_still : (n c : ℕ) (node : PlainNode) → NodeRanged n node → AllAt Still node.vbs → AllAt Still (hang_at c node).0.vbs
 hang_still n c node ranged all = by (node.clients c)

@@ -22,6 +22,8 @@ use Rattle.vb_types.specs.declared.journal.FlushPart.TheVariants as part
 use Rattle.transcript_law.proofs.invariant.ClientWorlds.{ended_are, posts_in_go, Came, ConnsAre, Goes, NodeToldIf, armed, came, crash_came, down_came, down_say, flush_goes, made, on, over, put_node, put_same, role_goes, save_goes, settled_goes, stays, told_at, unless, unless_node, unlinked_are, up_goes}
 use Rattle.transcript_law.proofs.invariant.{ClientStarts.{start_came}, Ranged.{pull_kept}}
 use Rattle.node_world.specs.Links.{drop_at}
+use Rattle.transcript_law.proofs.lines.Reads.{pull_is}
+use Rattle.vb_calls.specs.Jobs.{after_reads}
 
 unless_came : (conns : Conns) (w : PlainWorld) (o : Outcome) (why : Option Cause) → ConnsAre w conns → Came conns o → Came conns (refused_or why w o)
 unless_came conns w o None are g = g
@@ -102,14 +104,14 @@ pull_goes conns n c frames node t = by (node.clients c) refl
   where
     by : (o : Option PlainClient) → node.clients c ≡ o → NodeGoes conns n (pull_if c frames node o).0 (pull_if c frames node o).1.events
     by None e = mute_goes conns n node [] tt t
-    by (Some client) e = put_goes_on conns n c node' x.1.events opened put.0 (subst (λ (u : ℕ → Bool). NodeTold u n node') here
-        (put_told (conns n) n c true (Some x.1.client) (with_states node x.0) refl now (λ z. t.small c opened) (runs_with (conns n) n c node client e t) (same_told (conns n) n node (with_states node x.0) (λ d. refl) refl t)))
+    by (Some client) e = subst (λ (y : PlainNode × Told). NodeGoes conns n y.0 y.1.events) (sym (pull_is c frames node (Some client))) (put_goes_on conns n c node' x.1.events opened put.0 (subst (λ (u : ℕ → Bool). NodeTold u n node') here
+        (put_told (conns n) n c true (Some x.1.client) (with_states node x.0) refl now (λ z. t.small c opened) (runs_with (conns n) n c node client e t) (same_told (conns n) n node (with_states node x.0) (λ d. refl) refl t))))
       where
         kept : IsKept n c (Some client)
         kept = subst (IsKept n c) e (t.kept c)
 
         x : States × ClientPulled
-        x = after (client_pulled frames client) node.vbs
+        x = after_reads (client_pulled frames client) node.shelves node.vbs
 
         node' : PlainNode
         node' = with_client (with_states node x.0) c (Some x.1.client)
@@ -118,10 +120,10 @@ pull_goes conns n c frames node t = by (node.clients c) refl
         opened = t.told c ∙ ap is_some e
 
         put : PullTold n c frames (record { events = x.1.events; answer = x.1.answer })
-        put = pull_told n c frames client node.vbs kept
+        put = pull_told n c frames client node.shelves node.vbs kept
 
         now : IsKept n c (Some x.1.client)
-        now = pull_kept n c frames client node.vbs kept
+        now = pull_kept n c frames client node.shelves node.vbs kept
 
         here : (λ d. if d == c then true else conns n d) ≡ conns n
         here = sym (row_here conns n c true) ∙ ap (λ (u : Conns). u n) (row_same conns n c true opened)
@@ -240,9 +242,9 @@ module _ (conns : Conns) (w : PlainWorld) (number : ℕ) (are : ConnsAre w conns
       pulls : (frames : ℕ) (k : Option PlainClient) → node.clients c ≡ k → Answered n c (ClientVerb.Pull frames) (pull_if c frames node k)
       pulls frames None e = t.told c ∙ ap is_some e
       pulls frames (Some client) e =
-          let x = (after (client_pulled frames client) node.vbs).1 in
-          let put : PullTold n c frames (record { events = x.events; answer = x.answer }) = pull_told n c frames client node.vbs (subst (IsKept n c) e (t.kept c)) in
-          subst (λ answer. ClientAnswer (conns n c) (ClientVerb.Pull frames) x.events answer) (sym put.1.2) (t.told c ∙ ap is_some e, put.1.3)
+          let x = (after_reads (client_pulled frames client) node.shelves node.vbs).1 in
+          let put : PullTold n c frames (record { events = x.events; answer = x.answer }) = pull_told n c frames client node.shelves node.vbs (subst (IsKept n c) e (t.kept c)) in
+          subst (Answered n c (ClientVerb.Pull frames)) (sym (pull_is c frames node (Some client))) (subst (λ answer. ClientAnswer (conns n c) (ClientVerb.Pull frames) x.events answer) (sym put.1.2) (t.told c ∙ ap is_some e, put.1.3))
 
       hang : (k : Option PlainClient) → node.clients c ≡ k → Answered n c ClientVerb.Hang (hung_if c node k)
       hang None e = t.told c ∙ ap is_some e

@@ -137,7 +137,7 @@ abbrev pub StartedAt : Option Begun → ClientStream → Type 0
 StartedAt None g = g.place ≡ g.ask.start
 StartedAt (Some b) g = g.ask.start < g.place
 
--- a stream as its producer keeps it is the one that is known
+-- a stream as its producer keeps it is the one that is known, up to the place that is; no backfill of it is to be read
 pub record StreamIs (tree : List Branch) (on : Option ℕ) (held : List Change) (pv : Option Plain) (g : ClientStream) (stream : PlainStream) : Type 0 where
   pub opaque : stream.opaque ≡ g.opaque
   pub small : stream.vb < 2 ^ 16
@@ -146,6 +146,9 @@ pub record StreamIs (tree : List Branch) (on : Option ℕ) (held : List Change) 
   pub over : g.over ≡ false
   pub ended : stream.ended ≡ g.turned
   pub gives : stream.gives ≡ None
+  pub shows : stream.sync ≡ g.sync
+  pub put_place : stream.place ≡ g.place
+  pub none_unread : stream.unread ≡ None
   pub fits : All ChangeFits stream.items
   pub next_in : stream.next ≤ length stream.items
   pub started : StartedAt g.last g

@@ -21,7 +21,7 @@ use Rattle.transcript_law.proofs.invariant.Owing.{Later}
 -- what a change of role at the vBucket v makes of a connection's stream
 pub ended_same : (v : ℕ) (ids : List ℕ) (stream : PlainStream) → SameStream stream (ended_in v ids stream)
 ended_same v ids stream = elim (stream.vb == v && list_any (λ i. i == stream.id) ids) as (λ b. SameStream stream (if b then record stream { ended = true } else stream))
-    [ true ↦ record { id = refl; until = refl; first = refl; marked = refl; vb = refl; opaque = refl; items = refl; next = refl; gives = refl; ended = λ e. refl } | false ↦ stream_same ]
+    [ true ↦ record { id = refl; until = refl; first = refl; marked = refl; vb = refl; opaque = refl; items = refl; next = refl; gives = refl; sync = refl; place = refl; unread = refl; ended = λ e. refl } | false ↦ stream_same ]
 
 -- an open stream's number is one of those that end
 pub id_listed : (id : ℕ) (ss : List Stream) (s : Stream) → stream_at id ss ≡ Some s → list_any (λ i. i == id) (stream_ids ss) ≡ true
@@ -72,6 +72,9 @@ stream_turned s s' g x y same over a = record {
   over = a.over;
   ended = over;
   gives = same.gives ∙ a.gives;
+  shows = same.sync ∙ a.shows;
+  put_place = same.place ∙ a.put_place;
+  none_unread = same.unread ∙ a.none_unread;
   fits = subst (All ChangeFits) (sym same.items) a.fits;
   next_in = subst (λ k. k ≤ length y.items) (sym same.next) (subst (λ xs. x.next ≤ length xs) (sym same.items) a.next_in);
   started = by_start g.last a.started;

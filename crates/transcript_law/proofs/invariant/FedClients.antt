@@ -1,7 +1,7 @@
 -- the streams of a node's vBuckets are others' or its clients', also after all that it does for its clients
 use Rattle.std.specs.Prelude.{◌≡◌, ◌≤◌, ◌+◌, ◌*◌, ◌^◌, ◌∷◌, ◌⊎◌, ◌==◌, if◌then◌else◌, ℕ, Bool, true, false, List, [], Option, Some, None, is_some}
-use Rattle.transcript_law.proofs.Words.{arith, refl, ap, sym, ◌∙◌, subst, inl, inr, ⊎_elim, eqb-true, eqb-false, All-nil, States, after, after_bind, Done, Frame}
-use Rattle.transcript_law.proofs.invariant.{OpenStreams.{AreKept}, Openings.{AreOwned, Holds, fewer, frame_keeps, puts_keep}, Quiets.{frame_quiet, same_call}, Unopened.{NoNew, OpensNone, after_new, closed_here, step_new}}
+use Rattle.transcript_law.proofs.Words.{arith, refl, ap, sym, ◌∙◌, subst, inl, inr, ⊎_elim, eqb-true, eqb-false, All-nil, States, after, Frame}
+use Rattle.transcript_law.proofs.invariant.{OpenStreams.{AreKept}, OpenPulls.{puts_keep}, Openings.{AreOwned, Holds, fewer, frame_keeps}, Quiets.{frame_quiet, same_call}, Unopened.{NoNew, OpensNone, after_new, closed_here, step_new}}
 use Rattle.transcript_law.specs.Feeding.{HasIn, HasOpen}
 use Rattle.client_session.proofs.Keeping.{front_of}
 use Rattle.client_session.specs.Serving.{Served, frame_handled}
@@ -21,6 +21,10 @@ use Rattle.vb_calls.specs.declared.calls.Resolved.{Resolved}
 use Rattle.vb_events.specs.declared.event.Cause.TheVariants as cause
 use Rattle.vb_events.specs.declared.event.Event.{Event}
 use Rattle.vb_calls.specs.declared.calls.VbCall.TheVariants as call
+use Rattle.transcript_law.proofs.lines.Reads.{pull_is}
+use Rattle.vb_calls.proofs.JobReadings.{after_reads_bind}
+use Rattle.vb_calls.specs.Jobs.{Ended, after_reads}
+use Rattle.vb_calls.specs.Shelves.{Shelves}
 
 -- the connections of a node
 abbrev pub Conns : Type 0
@@ -154,10 +158,10 @@ module _ (others : ℕ → ℕ → Type 0) (vbs : States) (clients : Conns) (c :
         posted_ends P clock (λ before producer f states s e held. framed before producer f states s held) (λ before producer fault states s e held. held)
         (λ f states h e held. frame_keeps OfOthers f (begun h.client.producer) states held) R stays ends r client vbs (mine client known) (λ a e. mine client known)
 
-  pub pulled_kept : (frames : ℕ) (client : PlainClient) → clients c ≡ Some client → let x = after (client_pulled frames client) vbs in NodeFed others x.0 (with_conn clients c (Some x.1.client))
-  pulled_kept frames client known =
-      let held = puts_keep OfOthers frames (begun client.producer) vbs (mine client known) in let put = after (frames_put frames (begun client.producer)) vbs in
-      subst (λ (x : States × ClientPulled). NodeFed others x.0 (with_conn clients c (Some x.1.client))) (sym (after_bind (frames_put frames (begun client.producer)) (λ put. Done (client_pull client.session put)) vbs))
+  pub pulled_kept : (shelves : Shelves) (frames : ℕ) (client : PlainClient) → clients c ≡ Some client → let x = after_reads (client_pulled frames client) shelves vbs in NodeFed others x.0 (with_conn clients c (Some x.1.client))
+  pulled_kept shelves frames client known =
+      let held = puts_keep OfOthers shelves frames (begun client.producer) vbs (mine client known) in let put = after_reads (frames_put frames (begun client.producer)) shelves vbs in
+      subst (λ (x : States × ClientPulled). NodeFed others x.0 (with_conn clients c (Some x.1.client))) (sym (after_reads_bind (frames_put frames (begun client.producer)) (λ put. Ended (client_pull client.session put)) shelves vbs))
       (with_mine put.0 (client_pull client.session put.1).client held)
 
 -- ---- lines of clients
@@ -174,7 +178,7 @@ pull_keeps c frames node others fed = by (node.clients c) refl
   where
     by : (o : Option PlainClient) → node.clients c ≡ o → let x = (pull_if c frames node o).0 in NodeFed others x.vbs x.clients
     by None e = fed
-    by (Some client) e = pulled_kept others node.vbs node.clients c fed frames client e
+    by (Some client) e = subst (λ (x : PlainNode × Told). NodeFed others x.0.vbs x.0.clients) (sym (pull_is c frames node (Some client))) (pulled_kept others node.vbs node.clients c fed node.shelves frames client e)
 
 pub hang_keeps : (c : ℕ) (node : PlainNode) → Keeps node (hang_at c node).0
 hang_keeps c node others fed = by (node.clients c) refl

@@ -1,6 +1,6 @@
 -- after each line each stream of a vBucket is that of an open link or of a client's connection
 use Rattle.std.specs.Prelude.{◌≡◌, ◌∷◌, ◌++◌}
-use Rattle.transcript_law.proofs.Words.{ℕ, Bool, List, [], refl, ap, inl, inr, ⊎_elim, fold, length, take, Option, Some, None, is_some, row_at, States, after, after_job, Cause, EndReason, Role, Plain}
+use Rattle.transcript_law.proofs.Words.{ℕ, Bool, List, [], refl, ap, sym, subst, inl, inr, ⊎_elim, fold, length, take, Option, Some, None, is_some, row_at, States, after, after_job, Cause, EndReason, Role, Plain}
 use Rattle.transcript_law.proofs.Words.{PlainLink, link_number, producer_node, consumer_node, PlainNode, PlainWorld, Told, Outcome, DialResult, with_node_at, with_links, with_states, node_outcome, own_link, moved_len, peer_of, dial_of, dial_bytes, over_why, up_at, pump_at, refusal, refused_or, first_cause, done}
 use Rattle.transcript_law.proofs.Words.{cut_outcome, with_dialed, link_outcome, on_link, with_link, StreamAsk, new_link, new_vb, peer_pulled, with_vb_at}
 use Rattle.transcript_law.proofs.{invariant.Agreement.{IsLink}, invariant.FedClients.{Keeps, NodeFed, keeps_all, less_keeps, none_fed, posts_keep}, invariant.FedNodes.{pump_held, up_held}, invariant.Feeding.{AllFed, AllKept, Fed, Fine, broken_fine, kept_fine, relinked_fed, served_fed, swapped, unlinked_fine}, invariant.LinkRows.{found_is_link}, verbs.Leaving.{own_found}}
@@ -11,7 +11,7 @@ use Rattle.vb_calls.specs.declared.calls.Resolved.{Resolved}
 use Rattle.disk_journals.specs.{Arms.{opens_all}, Books.{Book}}
 use Rattle.durability.specs.Chains.{Members}
 use Rattle.node_core.specs.{Dials.{dial_due}, Flushing.{chain_changed, ticked}, Loading.{are_short, loaded_by, no_states, starts_of, with_loaded}, Peers.{peer_frames, peer_heard}}
-use Rattle.node_world.proofs.Keeping.{due_dialed, fed_dialed, given_desk, pulled_desk}
+use Rattle.node_world.proofs.Keeping.{due_dialed, fed_dialed, given_desk}
 use Rattle.node_world.specs.Arms.{fired_by, placed}
 use Rattle.node_world.specs.Dues.{due_at, due_in, due_of, is_counted, with_due}
 use Rattle.node_world.specs.Links.{frames_up, left_unless, untold_peer, with_down, with_server, with_up}
@@ -24,6 +24,8 @@ use Rattle.vb_calls.specs.States.{make_at}
 use Rattle.vb_types.specs.declared.journal.FlushPart.{FlushPart}
 use Rattle.vb_types.specs.declared.journal.Record.{Record}
 use Rattle.vb_calls.specs.declared.calls.VbCall.TheVariants as call
+use Rattle.transcript_law.proofs.lines.Reads.{pump_reads, pumps_read, read_desk}
+use Rattle.vb_calls.specs.Jobs.{after_reads}
 
 -- ---- lines of one node
 
@@ -137,17 +139,17 @@ module _ (w : PlainWorld) (fine : Fine w) where
       by (Some link) e = at link (found_is_link l w.links link e).0 (w.nodes (producer_node link)) refl
 
   pub pump_fed : AllKept w → (l frames : ℕ) → AllFed (on_link w l producer_node (pump_at frames)).0
-  pump_fed kept l frames = by (row_at link_number l w.links) refl
+  pump_fed kept l frames = subst (λ pump. AllFed (on_link w l producer_node pump).0) (sym (pumps_read frames)) (by (row_at link_number l w.links) refl)
     where
       at : (link : PlainLink) → IsLink link w.links → (o : Option PlainNode) → w.nodes (producer_node link) ≡ o
-          → AllFed (with_link link (node_outcome w (producer_node link) (Some link, refusal Cause.UnknownNode) o (pump_at frames link))).0
+          → AllFed (with_link link (node_outcome w (producer_node link) (Some link, refusal Cause.UnknownNode) o (pump_reads frames link))).0
       at link is None e = (same_fine link is).fed
       at link is (Some node) e =
-          let x = after (peer_pulled frames (peer_of link)) node.vbs in
+          let x = after_reads (peer_pulled frames (peer_of link)) node.shelves node.vbs in
           served_fed w link (with_server link x.1.peer x.1.out) fine is (producer_node link) node (with_states node x.0) refl e
-          (pulled_desk frames (peer_of link) node.vbs) (λ others fed. pump_held others frames link node fed (kept link is))
+          (read_desk frames (peer_of link) node.shelves node.vbs) (λ others fed. pump_held others frames link node fed (kept link is))
 
-      by : (o : Option PlainLink) → row_at link_number l w.links ≡ o → AllFed (link_outcome w l producer_node (pump_at frames) o).0
+      by : (o : Option PlainLink) → row_at link_number l w.links ≡ o → AllFed (link_outcome w l producer_node (pump_reads frames) o).0
       by None e = fine.fed
       by (Some link) e = at link (found_is_link l w.links link e).0 (w.nodes (producer_node link)) refl
 

@@ -1,11 +1,13 @@
 -- what a producer's node and its link are behind frames: each stream is others', or the link's own, or a client's
 use Rattle.std.specs.Prelude.{◌∷◌, ◌⊎◌}
 use Rattle.transcript_law.proofs.Words.{ℕ, List, [], sym, subst, inl, inr, ⊎_elim, take, Frame, States, after, after_bind, Done, begun, frame_answered, frames_put, PlainLink, PlainNode, PeerResult, PullResult, peer_result, pull_result, peer_pulled, peer_of, moved_len, with_states}
-use Rattle.transcript_law.proofs.invariant.{FedClients.{ClientHas, Conns, NodeFed, posts_keep}, Openings.{Holds, frame_keeps, puts_keep}, OpenStreams.{AreKept}}
+use Rattle.transcript_law.proofs.invariant.{FedClients.{ClientHas, Conns, NodeFed, posts_keep}, OpenPulls.{puts_keep}, Openings.{Holds, frame_keeps}, OpenStreams.{AreKept}}
 use Rattle.transcript_law.specs.Feeding.{HasOpen}
 use Rattle.dcp_producer.specs.Producers.{PlainProducer}
 use Rattle.node_core.specs.Peers.{PlainPeer, peer_answered, peer_frames, peer_heard}
 use Rattle.node_world.specs.Links.{frame_up, frames_up, untold_peer}
+use Rattle.vb_calls.proofs.JobReadings.{after_reads_bind}
+use Rattle.vb_calls.specs.Jobs.{Ended, after_reads}
 
 module _ (others : ℕ → ℕ → Type 0) where
   -- each stream of a vBucket is others', this producer's, or a client's
@@ -48,8 +50,8 @@ module _ (others : ℕ → ℕ → Type 0) where
 
   -- and the frames that it puts
   pub pump_held : (n : ℕ) (link : PlainLink) (node : PlainNode) → LinkFed link.server node.vbs node.clients → AreKept link.server
-      → let x = after (peer_pulled n (peer_of link)) node.vbs in LinkFed x.1.peer.producer x.0 node.clients
+      → let x = after_reads (peer_pulled n (peer_of link)) node.shelves node.vbs in LinkFed x.1.peer.producer x.0 node.clients
   pump_held n link node fed kept =
-      subst (λ (x : States × PullResult). LinkFed x.1.peer.producer x.0 node.clients) (sym (after_bind (frames_put n (begun link.server)) (λ put. Done (pull_result link.up_heard put)) node.vbs))
-      (let held = puts_keep (Beside node.clients) n (begun link.server) node.vbs (own link.server node.vbs node.clients fed kept) in let x = after (frames_put n (begun link.server)) node.vbs in
+      subst (λ (x : States × PullResult). LinkFed x.1.peer.producer x.0 node.clients) (sym (after_reads_bind (frames_put n (begun link.server)) (λ put. Ended (pull_result link.up_heard put)) node.shelves node.vbs))
+      (let held = puts_keep (Beside node.clients) node.shelves n (begun link.server) node.vbs (own link.server node.vbs node.clients fed kept) in let x = after_reads (frames_put n (begun link.server)) node.shelves node.vbs in
       fed_again link.server x.1.0.end node.vbs x.0 node.clients fed held)

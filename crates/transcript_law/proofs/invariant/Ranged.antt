@@ -12,8 +12,7 @@ use Rattle.dcp_producer.specs.declared.{desk.Desk.{Desk}, halt.Halt.{Halt}}
 use Rattle.client_session.proofs.Chunks.{nothing}
 use Rattle.node_core.specs.Clients.{ClientPulled, Handling, PlainClient, client_ended, client_fed, client_posted, client_pull, client_pulled, new_client}
 use Rattle.std.specs.Option.{option_map}
-use Rattle.vb_calls.proofs.{Conduct.{after_always}, Readings.{after_bind}}
-use Rattle.vb_calls.specs.Programs.{AnyCall, Done, Prog}
+use Rattle.vb_calls.specs.Programs.{AnyCall}
 use Rattle.{durability.specs.Chains.{Members}, node_world.specs.Cuts.{closed_at}, node_world.specs.declared.script_node.TheConstants.{MAX_CLIENTS}}
 use Rattle.node_core.specs.{Admin.{admin_refused}, Dials.{dial_due}, Flushing.{chain_changed, ticked}, Loading.{are_short, starts_of}, Peers.{PeerResult, peer_answered, peer_frames, peer_heard}}
 use Rattle.node_world.specs.{Arms.{fired_by, lifted, placed, under_arm}, Dues.{due_at, due_in, due_of, is_counted}, Links.{dial_of, frame_up, frames_up, moved_len, peer_of, untold_peer}, Turns.{posted_at, posted_in, role_called, turned}}
@@ -25,6 +24,10 @@ use Rattle.{node_world.specs.declared.arm.Fired.{Fired}, transcript_law.proofs.W
 use Rattle.node_world.specs.declared.arm.Fired.TheVariants as fired
 use Rattle.vb_events.specs.declared.event.Cause.TheVariants as cause
 use Rattle.vb_types.specs.declared.journal.FlushPart.TheVariants as part
+use Rattle.transcript_law.proofs.lines.Reads.{pull_is}
+use Rattle.vb_calls.proofs.JobReadings.{after_reads_bind, reads_always}
+use Rattle.vb_calls.specs.Jobs.{Ended, IsRead, Job, after_reads}
+use Rattle.vb_calls.specs.Shelves.{Shelves}
 
 abbrev pub SessionRangedIf : ℕ → Option PlainClient → Type 0
 SessionRangedIf n None = Unit {0}
@@ -135,15 +138,15 @@ bytes_ranged n c bytes node are ranged = by (node.clients c) refl (ranged.client
         (kept_left n c y.1.client (fed_at n c node.clock client node.vbs kept bytes).0)
 
 -- a pull leaves the session, and its producer at its desk
-pub pull_same : (frames : ℕ) (client : PlainClient) (vbs : States) → let x = (after (client_pulled frames client) vbs).1.client in (x.session ≡ client.session) × (x.producer.desk ≡ client.producer.desk)
-pull_same frames client vbs =
-    let put : Prog (Served × Halt) = frames_put frames (begun client.producer) in
-    subst (λ (y : States × ClientPulled). (y.1.client.session ≡ client.session) × (y.1.client.producer.desk ≡ client.producer.desk)) (sym (after_bind put (λ p. Done (client_pull client.session p)) vbs))
-    (refl, after_always AnyCall (PutAt client.producer.desk) put vbs (pulled_at client.producer.desk frames (begun client.producer) refl))
+pub pull_same : (frames : ℕ) (client : PlainClient) (shelves : Shelves) (vbs : States) → let x = (after_reads (client_pulled frames client) shelves vbs).1.client in (x.session ≡ client.session) × (x.producer.desk ≡ client.producer.desk)
+pull_same frames client shelves vbs =
+    let put : Job (Served × Halt) = frames_put frames (begun client.producer) in
+    subst (λ (y : States × ClientPulled). (y.1.client.session ≡ client.session) × (y.1.client.producer.desk ≡ client.producer.desk)) (sym (after_reads_bind put (λ p. Ended (client_pull client.session p)) shelves vbs))
+    (refl, reads_always AnyCall IsRead (PutAt client.producer.desk) put shelves vbs (pulled_at client.producer.desk frames (begun client.producer) refl))
 
-pub pull_kept : (n c frames : ℕ) (client : PlainClient) (vbs : States) → IsKept n c (Some client) → IsKept n c (Some (after (client_pulled frames client) vbs).1.client)
-pull_kept n c frames client vbs kept =
-    let same = pull_same frames client vbs in
+pub pull_kept : (n c frames : ℕ) (client : PlainClient) (shelves : Shelves) (vbs : States) → IsKept n c (Some client) → IsKept n c (Some (after_reads (client_pulled frames client) shelves vbs).1.client)
+pull_kept n c frames client shelves vbs kept =
+    let same = pull_same frames client shelves vbs in
     (record { node = ap (λ (s : PlainSession). s.who.node) same.0 ∙ kept.0.node; number = ap (λ (s : PlainSession). s.who.client) same.0 ∙ kept.0.number; stream = ap (λ (d : Desk). d.stream) same.1 ∙ kept.0.stream; desk = ap (λ (d : Desk). d.node) same.1 ∙ kept.0.desk }, ap (λ (s : PlainSession). s.closed) same.0 ∙ kept.1)
 
 -- and frames of its streams
@@ -153,9 +156,10 @@ pull_ranged n c frames node ranged = by (node.clients c) refl (ranged.clients c)
     by : (o : Option PlainClient) → node.clients c ≡ o → SessionRangedIf n o → IsKept n c o → NodeRanged n (pull_if c frames node o).0
     by None e there kept = ranged
     by (Some client) e there kept =
-        let y : States × ClientPulled = after (client_pulled frames client) node.vbs in let same = pull_same frames client node.vbs in
-        with_client_ranged n c (with_states node y.0) (Some y.1.client) (up_with n c node client e ranged) (same_ranged n node y.0 node.made ranged) (subst (SessionRanged n) (sym same.0) there)
-        (pull_kept n c frames client node.vbs kept)
+        let y : States × ClientPulled = after_reads (client_pulled frames client) node.shelves node.vbs in let same = pull_same frames client node.shelves node.vbs in
+        subst (λ (x : PlainNode × Told). NodeRanged n x.0) (sym (pull_is c frames node (Some client)))
+        (with_client_ranged n c (with_states node y.0) (Some y.1.client) (up_with n c node client e ranged) (same_ranged n node y.0 node.made ranged) (subst (SessionRanged n) (sym same.0) there)
+        (pull_kept n c frames client node.shelves node.vbs kept))
 
 -- outcomes that are posted
 

@@ -90,10 +90,13 @@ pub record SameStream (x y : PlainStream) : Type 0 where
   pub items : y.items ≡ x.items
   pub next : y.next ≡ x.next
   pub gives : y.gives ≡ x.gives
+  pub sync : y.sync ≡ x.sync
+  pub place : y.place ≡ x.place
+  pub unread : y.unread ≡ x.unread
   pub ended : x.ended ≡ true → y.ended ≡ true
 
 pub stream_same : {x : PlainStream} → SameStream x x
-stream_same = record { id = refl; until = refl; first = refl; marked = refl; vb = refl; opaque = refl; items = refl; next = refl; gives = refl; ended = λ e. e }
+stream_same = record { id = refl; until = refl; first = refl; marked = refl; vb = refl; opaque = refl; items = refl; next = refl; gives = refl; sync = refl; place = refl; unread = refl; ended = λ e. e }
 
 -- a stream goes on, or has ended now
 abbrev pub streaming_again : {fv : Wants} {kn : Member} {pv pv' : Option Plain} {leader leader' : Member} {g : Option Granted} {served : PlainProducer} {asker : PlainConsumer} {up down : List Frame} (a : Streaming fv kn pv leader g served asker up down)
@@ -132,6 +135,9 @@ streaming_again {served = served} {asker} a streams stream same is opens =
           no_end = record { until = subst (λ n. top < n) (sym same.until) x.no_end.until; marked = subst IsLow (sym same.marked) x.no_end.marked };
           first_is = same.first ∙ x.first_is;
           marked_is = ap is_some same.marked ∙ x.marked_is;
+          sync_is = same.sync ∙ x.sync_is;
+          put_place = same.place ∙ x.put_place;
+          none_unread = same.unread ∙ x.none_unread;
           fits = subst (All ChangeFits) (sym same.items) x.fits;
           next_in = rw same.next (rw same.items x.next_in);
           last = by a.granted_is.last x.last;

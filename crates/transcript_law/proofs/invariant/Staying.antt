@@ -170,7 +170,7 @@ up_stays wanted link node =
     let piece = take (moved_len wanted link.up) link.up in frames_stay (peer_frames piece (peer_of link)) (node, untold_peer (peer_heard piece (peer_of link)))
 
 pump_stays : (frames : ℕ) (link : PlainLink) (node : PlainNode) → Stays node (pump_at frames link node).0
-pump_stays frames link node = vbs_stay node (pump_at frames link node).0 refl refl refl (ran_keeps (peer_pulled frames (peer_of link)) node.vbs)
+pump_stays frames link node = job_stays (peer_pulled frames (peer_of link)) node
 
 down_stays : (wanted : ℕ) (link : PlainLink) (node : PlainNode) → Stays node (down_at wanted link node).0
 down_stays wanted link node = job_stays (dial_bytes (take (moved_len wanted link.down) link.down) (dial_of link)) node

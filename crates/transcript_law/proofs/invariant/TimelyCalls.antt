@@ -19,7 +19,7 @@ use Rattle.node_core.specs.Peers.{PlainPeer, peer_answered, peer_result, pull_re
 use Rattle.node_core.specs.declared.admin.AdminCall.TheVariants as admin
 use Rattle.vb_calls.proofs.{Conduct.{always_bind, always_each, always_so}, JobConduct.{always_bind_job}}
 use Rattle.vb_calls.specs.Flushes.{append_job, appended_job, batch_of_reply, done_job, flush_job, is_refusal, note_role_job, part_job, role_of_call, role_job, role_told_job, save_all_job, taken_job, took}
-use Rattle.vb_calls.specs.Jobs.{AlwaysJob}
+use Rattle.vb_calls.specs.Jobs.{AlwaysJob, IsRead}
 use Rattle.vb_calls.specs.Jobs as job
 use Rattle.vb_calls.specs.Programs.{Always, AnyReply, each}
 use Rattle.dcp_producer.specs.{Giving.{Given, Yields, all_given, behind_yield, given_of, given_up, is_due, none_given, one_given, stream_given, told_as, with_given}, declared.yields.Yielded.{Yielded}}
@@ -108,19 +108,25 @@ peer_tame f peer = tame_bind (frame_answered f (begun peer.producer)) (λ s. Don
 
 -- ---- a producer that puts frames
 
-puts_make : (kind : VbCall → Type 0) → Takes kind → (k : ℕ) (s : Served) → Makes kind (frames_put k s)
+-- one that reads journals alone
+reads_make : {A : Type 0} (kind : VbCall → Type 0) (answers : A → Type 0) (one : Job A) → AlwaysJob AnyReply (λ v made. kind made) IsRead answers one → MakesJob kind one
+reads_make kind answers (Ended a) always = tt
+reads_make kind answers (job.Call v made next) always = (always.0, λ reply any. reads_make kind answers (next reply) (always.1 reply any))
+reads_make kind answers (job.Request v ask next) always = (tt, λ got. reads_make kind answers (next got) (always.1 got))
+
+puts_make : (kind : VbCall → Type 0) → Takes kind → (k : ℕ) (s : Served) → MakesJob kind (frames_put k s)
 puts_make kind takes k s =
     let lines : Lines AnyLine = record { items = λ name c. tt; markers = λ name start end flags. tt; ends = λ name reason. tt; states = λ name told. tt } in
-    always_so AnyReply (λ v made. kind made) (Puts kind AnyLine takes lines (λ n t. Unit {0}) (λ n t end same c. tt) (λ n t f line is c. tt) k) (λ a. Unit {0}) (frames_put k s) (λ t c. tt)
+    reads_make kind (Puts kind AnyLine takes lines (λ n t. Unit {0}) (λ n t end same c. tt) (λ n t f line is c. tt) k) (frames_put k s)
     (pull_so kind AnyLine takes lines (λ n t. Unit {0}) (λ n t end same c. tt) (λ n t f line is c. tt) k s tt)
 
-pub pulled_makes : (kind : VbCall → Type 0) → Takes kind → (k : ℕ) (peer : PlainPeer) → Makes kind (peer_pulled k peer)
-pulled_makes kind takes k peer = always_bind AnyReply (λ v made. kind made) (λ a. Unit {0}) (λ b. Unit {0}) (frames_put k (begun peer.producer)) (λ put. Done (pull_result peer.heard put)) (puts_make kind takes k (begun peer.producer)) (λ put any. tt)
+pub pulled_makes : (kind : VbCall → Type 0) → Takes kind → (k : ℕ) (peer : PlainPeer) → MakesJob kind (peer_pulled k peer)
+pulled_makes kind takes k peer = always_bind_job AnyReply (λ v made. kind made) (λ v ask. Unit {0}) (λ a. Unit {0}) (λ b. Unit {0}) (frames_put k (begun peer.producer)) (λ put. Ended (pull_result peer.heard put)) (puts_make kind takes k (begun peer.producer)) (λ put any. tt)
 
 timely_takes : Takes IsTimely
 timely_takes = record { places = λ id. tt; takes = λ id. tt; closes = λ id. tt }
 
-pub pulled_tame : (k : ℕ) (peer : PlainPeer) → Tame (peer_pulled k peer)
+pub pulled_tame : (k : ℕ) (peer : PlainPeer) → TameJob (peer_pulled k peer)
 pulled_tame k peer = pulled_makes IsTimely timely_takes k peer
 
 -- ---- a producer that gives vBuckets up
@@ -151,10 +157,10 @@ module _ (clock : ℕ) (small : clock < 2 ^ 64) where
   posted_tame r client = posted_keeps AnyReply (λ v made. IsTimely made) AnyHandling clock (λ before producer f s e p. served_tame clock small f (front_of f s)) (λ before producer fault s e p. tt) (λ f h e p. answered_tame f (begun h.client.producer))
       (λ h e p. closed_makes IsTimely (λ id. tt) h.client.producer) r client tt (λ a e. tt)
 
-pub pull_makes : (kind : VbCall → Type 0) → Takes kind → (k : ℕ) (client : PlainClient) → Makes kind (client_pulled k client)
-pull_makes kind takes k client = always_bind AnyReply (λ v made. kind made) (λ a. Unit {0}) (λ b. Unit {0}) (frames_put k (begun client.producer)) (λ put. Done (client_pull client.session put)) (puts_make kind takes k (begun client.producer)) (λ put any. tt)
+pub pull_makes : (kind : VbCall → Type 0) → Takes kind → (k : ℕ) (client : PlainClient) → MakesJob kind (client_pulled k client)
+pull_makes kind takes k client = always_bind_job AnyReply (λ v made. kind made) (λ v ask. Unit {0}) (λ a. Unit {0}) (λ b. Unit {0}) (frames_put k (begun client.producer)) (λ put. Ended (client_pull client.session put)) (puts_make kind takes k (begun client.producer)) (λ put any. tt)
 
-pub pull_tame : (k : ℕ) (client : PlainClient) → Tame (client_pulled k client)
+pub pull_tame : (k : ℕ) (client : PlainClient) → TameJob (client_pulled k client)
 pull_tame k client = pull_makes IsTimely timely_takes k client
 
 -- ---- a dial whose vBucket has more written down

@@ -169,7 +169,7 @@ up_calm n wanted link node kept =
 
 pub pump_calm : (frames : ℕ) (link : PlainLink) (node : PlainNode) → Spared (pump_at frames link node).1.1
 pump_calm frames link node = pulled_so AnyKind (λ name line. Calm (line ∷ [])) takes_any (record { items = λ name c. refl; markers = λ name start end flags. refl; ends = λ name reason. refl; states = λ name told. refl })
-    Calm link.server.desk (λ lines line is c. calm_more lines (line ∷ []) c is) (λ t. FiresAsSaid None t.events t.answer) (λ heard put c. c) frames (peer_of link) node.vbs refl refl
+    Calm link.server.desk (λ lines line is c. calm_more lines (line ∷ []) c is) (λ t. FiresAsSaid None t.events t.answer) (λ heard put c. c) frames (peer_of link) node.vbs node.shelves refl refl
 
 -- ---- a consumer
 

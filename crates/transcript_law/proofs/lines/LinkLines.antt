@@ -36,7 +36,7 @@ peer_mute f peer states = (peer_so AnyKind AreMute peer.producer.desk asks_any (
 -- what it puts
 pub pump_mute : (frames : ℕ) (link : PlainLink) (node : PlainNode) → AreMute (pump_at frames link node).1.1.events
 pump_mute frames link node = pulled_so AnyKind (λ name line. AreMute (line ∷ [])) takes_any (record { items = λ name c. (tt, tt); markers = λ name start end flags. (tt, tt); ends = λ name reason. (tt, tt); states = λ name told. (tt, tt) })
-    AreMute link.server.desk (λ lines line is c. mute_more lines (line ∷ []) c is) (λ t. AreMute t.events) (λ heard put c. c) frames (peer_of link) node.vbs tt refl
+    AreMute link.server.desk (λ lines line is c. mute_more lines (line ∷ []) c is) (λ t. AreMute t.events) (λ heard put c. c) frames (peer_of link) node.vbs node.shelves tt refl
 
 -- ---- a consumer
 

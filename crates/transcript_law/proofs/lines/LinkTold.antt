@@ -64,4 +64,4 @@ module _ (q : Event → Bool) (d : Desk) where
 
     pub pump_so : (frames : ℕ) (link : PlainLink) (node : PlainNode) → link.server.desk ≡ d → Are q (pump_at frames link node).1.1.events
     pump_so frames link node e =
-        pulled_so AnyKind Passes takes_any passes (Are q) d (λ lines line is a. are_more q lines (line ∷ []) a (are_cons q line [] (is refl) refl)) (λ t. Are q t.events) (λ heard put c. c) frames (peer_of link) node.vbs refl e
+        pulled_so AnyKind Passes takes_any passes (Are q) d (λ lines line is a. are_more q lines (line ∷ []) a (are_cons q line [] (is refl) refl)) (λ t. Are q t.events) (λ heard put c. c) frames (peer_of link) node.vbs node.shelves refl e

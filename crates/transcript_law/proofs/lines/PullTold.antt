@@ -1,15 +1,18 @@
 -- a pull of a client's connection tells of frames of its own streams and of its answers alone, and of as many as it answers, whatever the replies of vBuckets
 use Rattle.std.specs.Prelude.{◌≡◌, ◌∷◌, ◌++◌, if◌then◌else◌}
-use Rattle.transcript_law.proofs.Words.{ℕ, suc, true, List, [], refl, ap, sym, subst, ◌∙◌, drop, length, filter, Option, Some, None, Event, Answer, Frame, Halt, StreamName, PlainNode, PlainProducer, Served, Told, States, after, after_bind, begun, frames_put, frames_in_lines, is_frame, Done, PutsAsTold, why_of}
+use Rattle.transcript_law.proofs.Words.{ℕ, suc, true, List, [], refl, ap, sym, subst, ◌∙◌, drop, length, filter, Option, Some, None, Event, Answer, Frame, Halt, StreamName, PlainNode, PlainProducer, Served, Told, States, begun, frames_put, frames_in_lines, is_frame, PutsAsTold, why_of}
 use Rattle.dcp_producer.specs.Pulling.{frame_put}
 use Rattle.dcp_producer.specs.declared.desk.Desk.{Desk}
-use Rattle.node_core.specs.Clients.{ClientPulled, PlainClient, client_pull, client_pulled, front_len, with_replies}
+use Rattle.node_core.specs.Clients.{PlainClient, client_pull, client_pulled, front_len, with_replies}
 use Rattle.node_world.specs.Nodes.{pull_at, pull_if}
 use Rattle.transcript_law.proofs.lines.{Calm.{AnyKind, Calm, Spared, takes_any}, Pulling.{Lines, PutFew, Puts, pull_so}, SessionLines.{IsKept}}
 use Rattle.transcript_law.proofs.lines.Refusals.{IsMade}
 use Rattle.transcript_law.proofs.links.PumpAnswers.{Counted, one_more, put_says}
-use Rattle.vb_calls.proofs.Conduct.{after_always}
 use Rattle.vb_calls.specs.Programs.{AnyCall}
+use Rattle.transcript_law.proofs.lines.Reads.{pull_is}
+use Rattle.vb_calls.proofs.JobReadings.{after_job_bind, after_reads_bind, reads_always}
+use Rattle.vb_calls.specs.Jobs.{Ended, IsRead, after_reads}
+use Rattle.vb_calls.specs.Shelves.{Shelves}
 
 -- a line of a frame of the client's streams, or of what it is sent
 abbrev pub IsPut : ℕ → ℕ → Event → Type 0
@@ -68,12 +71,12 @@ module _ (n c : ℕ) where
   abbrev pub PullTold : ℕ → Told → Type 0
   PullTold wanted told = ArePut n c told.events × ((count : ℕ) × (said : _) × (told.answer ≡ Answer.Pulled count said) × PutsAsTold wanted told.events count said)
 
-  pub pull_told : (wanted : ℕ) (client : PlainClient) (states : States) → IsKept n c (Some client) → (let x = (after (client_pulled wanted client) states).1 in PullTold wanted (record { events = x.events; answer = x.answer }))
-  pull_told wanted client states kept =
-      let first : Served = begun client.producer in let x = after (frames_put wanted first) states in
-      let put : Puts AnyKind IsOwn takes_any frames SoFar keeps puts wanted x.1 = after_always AnyCall (Puts AnyKind IsOwn takes_any frames SoFar keeps puts wanted) (frames_put wanted first) states
+  pub pull_told : (wanted : ℕ) (client : PlainClient) (shelves : Shelves) (states : States) → IsKept n c (Some client) → (let x = (after_reads (client_pulled wanted client) shelves states).1 in PullTold wanted (record { events = x.events; answer = x.answer }))
+  pull_told wanted client shelves states kept =
+      let first : Served = begun client.producer in let x = after_reads (frames_put wanted first) shelves states in
+      let put : Puts AnyKind IsOwn takes_any frames SoFar keeps puts wanted x.1 = reads_always AnyCall IsRead (Puts AnyKind IsOwn takes_any frames SoFar keeps puts wanted) (frames_put wanted first) shelves states
       (pull_so AnyKind IsOwn takes_any frames SoFar keeps puts wanted first ((refl, refl), kept.0.stream, tt)) in
-      subst (λ y. PullTold wanted (record { events = y.1.events; answer = y.1.answer })) (sym (after_bind (frames_put wanted first) (λ put. Done (client_pull client.session put)) states))
+      subst (λ y. PullTold wanted (record { events = y.1.events; answer = y.1.answer })) (sym (after_reads_bind (frames_put wanted first) (λ put. Ended (client_pull client.session put)) shelves states))
       (let s : Served = x.1.0 in
       subst (λ (who : ℕ × ℕ). PullTold wanted (record { events = with_replies who.0 who.1 s.events s.out; answer = Answer.Pulled s.count (why_of x.1.1) })) (λ i. (sym kept.0.node i, sym kept.0.number i)) (
         replied_put n c s.events s.out put.1.2,
@@ -100,7 +103,8 @@ pull_calm n c wanted node kept = by (node.clients c) kept
     by : (o : Option PlainClient) → IsKept n c o → Spared (pull_if c wanted node o).1
     by None k = refl
     by (Some client) k =
-        let x = (after (client_pulled wanted client) node.vbs).1 in let t = pull_told n c wanted client node.vbs k in said x.answer x.events t.1.0 t.1.1 t.1.2 (put_calm n c x.events t.0)
+        let x = (after_reads (client_pulled wanted client) node.shelves node.vbs).1 in let t = pull_told n c wanted client node.shelves node.vbs k in
+        subst (λ (y : PlainNode × Told). Spared y.1) (sym (pull_is c wanted node (Some client))) (said x.answer x.events t.1.0 t.1.1 t.1.2 (put_calm n c x.events t.0))
       where
         said : (answer : Answer) (lines : List Event) (count : ℕ) (why : _) → answer ≡ Answer.Pulled count why → Calm lines → Spared (record { events = lines; answer = answer })
         said (Answer.Pulled k w) lines count why e calm = calm
@@ -110,4 +114,4 @@ pull_calm n c wanted node kept = by (node.clients c) kept
 
 -- and it is no refusal
 pub pull_made : (c wanted : ℕ) (node : PlainNode) (client : PlainClient) → IsMade (pull_if c wanted node (Some client)).1.answer
-pull_made c wanted node client = subst (λ (y : States × ClientPulled). IsMade y.1.answer) (sym (after_bind (frames_put wanted (begun client.producer)) (λ put. Done (client_pull client.session put)) node.vbs)) (λ why e s. cc)
+pull_made c wanted node client = subst (λ y. IsMade y.1.answer) (sym (after_job_bind (frames_put wanted (begun client.producer)) (λ put. Ended (client_pull client.session put)) node.vbs node.shelves)) (λ why e s. cc)

@@ -20,6 +20,10 @@ use Rattle.dcp_producer.specs.{Firsts.{first_of}, Producers.{is_client, stream_a
 use Rattle.transcript_law.proofs.links.Firsts.{first_answers, first_count, request_frames, set_after}
 use Rattle.transcript_law.proofs.links.Requests.{all_set, answers_count, request_answered, request_last}
 use Rattle.{dcp_consumer.specs.Dialing.{flagged}, takeover.specs.TakingOver.{new_take_over}, takeover.specs.declared.take_over.TakeOver.{TakeOver}, takeover.specs.declared.take_over.TakeStep.{TakeStep}, takeover.specs.declared.take_over.TakeStep.TheVariants.{Pend}}
+use Rattle.dcp_producer.specs.Serving.{place_of_reply}
+use Rattle.transcript_law.proofs.invariant.NoneUnread.{none_source}
+use Rattle.vb_calls.specs.Streams.{is_in_memory}
+use Rattle.vb_types.specs.declared.stream.Place.{Place}
 
 -- the states with this vBucket at v, and else the same
 pub record StatesAre (st : States) (v : ℕ) (vb : Plain) (st' : States) : Type 0 where
@@ -36,7 +40,7 @@ refused_told s o vb ask log high said = with_frame (record s { end = with_asked 
 
 -- the stream of the number id that begins; its consumer has all up to the start that it asked for
 abbrev pub begun_stream : ℕ → ℕ → ℕ → StreamAsk → PlainStream
-begun_stream id o vb ask = record { id = id; vb = vb; opaque = o; until = ask.end; first = first_of ask; items = []; next = 0; marked = None; reached = ask.start; ended = false; gives = gives_of ask.flags }
+begun_stream id o vb ask = record { id = id; vb = vb; opaque = o; until = ask.end; first = first_of ask; sync = true; place = ask.start; unread = None; items = []; next = 0; marked = None; reached = ask.start; ended = false; gives = gives_of ask.flags }
 
 -- the producer then
 abbrev pub granted_end : PlainProducer → ℕ → ℕ → StreamAsk → PlainProducer
@@ -93,11 +97,11 @@ module _ (o vb node : ℕ) (ask : StreamAsk) (s : Served) (range : AskInRange as
   opens_one = ap (λ r. not (is_some r) && not (is_some (stream_of_vb vb s.end.streams))) refusal_is ∙ ap (λ streams. not (is_some (stream_of_vb vb streams))) none_yet
 
   -- what comes of the vBucket's answer
-  abbrev told_of : AskAnswer → List LogEntry → ℕ → Served
-  told_of said log high = stream_answered (asked_frame o vb ask) ask (record s { end = with_granted (with_asked s.end) id (asked_frame o vb ask) ask said }) log high said
+  abbrev told_of : Place → AskAnswer → List LogEntry → ℕ → Served
+  told_of from said log high = stream_answered (asked_frame o vb ask) ask (record s { end = with_granted (with_asked s.end) id (asked_frame o vb ask) ask from said }) log high said
 
   abbrev told_as : States × Option VbReply → States × Served
-  told_as p = (p.0, told_of (ask_verdict p.1) (log_of_reply p.1) (high_of_reply p.1))
+  told_as p = (p.0, told_of (place_of_reply p.1) (ask_verdict p.1) (log_of_reply p.1) (high_of_reply p.1))
 
   -- it is answered by what the vBucket says
   asked_there : (st : States) (there : Option Plain) → st vb ≡ there → after (frame_answered (asked_frame o vb ask) s) st ≡ told_as (call_at st vb (VbCall.OpenStream id ask true) there)
@@ -147,7 +151,7 @@ module _ (o vb node : ℕ) (ask : StreamAsk) (s : Served) (range : AskInRange as
           states',
           called_once st vb pv',
           judged_asked Continue because ruled
-              ∙ ap (λ streams. (states', record (granted_lines s o vb ask pv.log pv.position.at) { end = record (granted_end s.end o vb ask) { streams = streams ++ begun_stream id o vb ask ∷ [] } })) none_yet,
+              ∙ (λ i. (states', record (granted_lines s o vb ask pv.log pv.position.at) { end = record (granted_end s.end o vb ask) { streams = none_yet i ++ record (begun_stream id o vb ask) { sync = is_sync (shaken i); unread = none_source (is_in_memory pv ask.start) i } ∷ [] } })),
         )
 
 refused_readable : (o : ℕ) (said : AskAnswer) → o < 2 ^ 32 → IsRefused said → Readable (answer_frame o [] said)
@@ -260,6 +264,9 @@ module _ (fv : Plain) (ask : StreamAsk) (link : PlainLink) (down : List ℕ) (f 
         no_end = record { until = subst (λ (a : StreamAsk). top < a.end) (sym t.asks) (omega arith); marked = tt };
         first_is = refl;
         marked_is = refl;
+        sync_is = refl;
+        put_place = refl;
+        none_unread = refl;
         fits = All-nil _;
         next_in = omega arith;
         last = refl;

@@ -1,6 +1,6 @@
 -- a link's stream that has no cursor is given one where its changes come from memory: of that no line tells
 use Rattle.std.specs.Prelude.{◌≡◌, ◌∷◌, if◌then◌else◌}
-use Rattle.transcript_law.proofs.Words.{ℕ, true, false, [], map, refl, ap, sym, ◌∙◌, subst, Some, inl, ⊎_elim, eq-eqb, ne_eqb, Chronicle, Cluster, Plain, PlainLink, PlainNode, PlainWorld, Served, States, Stream, StreamName, after, after_lines, consumer_node, link_number, producer_node, row_at, row_put, stream_at, with_vb_at}
+use Rattle.transcript_law.proofs.Words.{ℕ, true, false, [], map, refl, ap, sym, ◌∙◌, subst, Some, inl, ⊎_elim, eq-eqb, ne_eqb, Chronicle, Cluster, Plain, PlainLink, PlainNode, PlainWorld, Served, States, Stream, StreamName, after_lines, consumer_node, link_number, producer_node, row_at, row_put, stream_at, with_vb_at}
 use Rattle.dcp_producer.specs.Frames.{place_requested, place_said, placed_next}
 use Rattle.dcp_producer.specs.declared.desk.Desk.{Desk}
 use Rattle.std.proofs.lemmas.Bool.{leb-true}
@@ -11,6 +11,7 @@ use Rattle.vb_calls.proofs.Placing.{given_again, given_here, given_there, with_c
 use Rattle.vb_calls.specs.Streams.{given_cursor, is_in_memory}
 use Rattle.vb_events.specs.declared.event.StreamName.TheVariants.{Link}
 use Rattle.vbucket.proofs.Fed.{feeds_given}
+use Rattle.vb_calls.specs.Jobs.{after_reads}
 
 module _ (w : PlainWorld) (r : Chronicle) (l : ℕ) (link : PlainLink) (node : PlainNode) (found : row_at link_number l w.links ≡ Some link) (states : States) (s : Served) (g : SoFar w r l link node states s) where
   open link.consumer.dialed use {vb}
@@ -124,7 +125,7 @@ module _ (w : PlainWorld) (r : Chronicle) (l : ℕ) (link : PlainLink) (node : P
       given_so_far = record { lawful = g.lawful; quiet = g.quiet; desk = g.desk; agrees = (c, agrees_given); known = g.known; stepped = g.stepped; hands = g.hands; own = g.own; beside = g.beside; ends = g.ends }
 
       -- and its vBucket is asked as before it
-      pub asked_given : after (place_requested name t.stream) given_states ≡ after (place_requested name t.stream) states
+      pub asked_given : after_reads (place_requested name t.stream) node.shelves given_states ≡ after_reads (place_requested name t.stream) node.shelves states
       asked_given =
           let again = given_again states t.stream.vb t.stream.id p o has opened none near in
-          λ j. after (placed_next name t.stream (place_said (again j).1)) (again j).0
+          λ j. after_reads (placed_next name t.stream (place_said (again j).1)) node.shelves (again j).0

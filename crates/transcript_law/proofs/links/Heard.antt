@@ -144,6 +144,9 @@ module _ {fv : Wants} {kn : Member} {pv : Option Plain} {leader : Member} {g : O
             no_end = record { until = t.streams.put.no_end.until; marked = t.streams.put.no_end.marked };
             first_is = t.streams.put.first_is;
             marked_is = t.streams.put.marked_is;
+            sync_is = t.streams.put.sync_is;
+            put_place = t.streams.put.put_place;
+            none_unread = t.streams.put.none_unread;
             fits = t.streams.put.fits;
             next_in = t.streams.put.next_in;
             last = begun_heard t.granted_is.last t.stream t.streams.put.last;

@@ -1,7 +1,7 @@
 -- what a link's producer puts once the consumer's vBucket took the branch over: the stream's end, or nothing, until the answer came
 use Rattle.std.specs.Prelude.{◌≡◌, ◌≤◌, ◌⊎◌, ◌+◌, ◌∷◌, ◌++◌, if◌then◌else◌}
-use Rattle.transcript_law.proofs.Words.{Bool, Change, Chronicle, Cluster, Done, Event, Frame, Granted, Why, None, Option, Plain, PlainLink, PlainNode, PlainWorld, Readable, Role, STATE_CHANGED, Served, Some, States, StaysSound, StreamName, eq-eqb, ne_eqb}
-use Rattle.transcript_law.proofs.Words.{[], All, All-head, All-nil, after, after_bind, after_lines, ap, arith, call_at, consumer_node, dcp_frame, false, finished, inl, inr, link_number, producer_node, refl, row_at, row_put, slice_get, subst, sym, true, with_changed, with_vb_at, without_stream, ℕ, ◌∙◌}
+use Rattle.transcript_law.proofs.Words.{Bool, Change, Chronicle, Cluster, Event, Frame, Granted, Why, None, Option, Plain, PlainLink, PlainNode, PlainWorld, Readable, Role, STATE_CHANGED, Served, Some, States, StaysSound, StreamName, eq-eqb, ne_eqb}
+use Rattle.transcript_law.proofs.Words.{[], All, All-head, All-nil, after_lines, ap, arith, call_at, consumer_node, dcp_frame, false, finished, inl, inr, link_number, producer_node, refl, row_at, row_put, slice_get, subst, sym, true, with_changed, with_vb_at, without_stream, ℕ, ◌∙◌}
 use Rattle.transcript_law.proofs.invariant.Agreement.{AgreesAt, AgreesIn, EndsStand, FollowsBy, Heir, LinkAgrees, OpenYet, VbAgrees, acked_still, consumer_seat, end_frames, end_reason, heir_step, idle, kept_stream, producer_seat, spoken, vb_of}
 use Rattle.transcript_law.proofs.invariant.{Carried.{fed_same}, Carrying.{Became, Changed, FeedChanged}, Noted.{CameIf, NotedLink, NotedStream}, OneLink.{carries_producer}, Tables.{never}}
 use Rattle.transcript_law.proofs.links.{Cutting.{closed_others}, PumpWorlds.{others_stream, LinkKnown, OwnedBy, SoFar, Stopped, TurnsSoFar, pumped, pumped_here, pumped_powers, pumped_shelves, pumped_where, so_far_more, told_stream}, PutFrames.{dial_told, dialed_vb, downs_with, end_with, found_here, given_as, link_with, named, noted_here, numbered, own_dial, put_agrees, relinked_twice, stands_with}, Sent.{done_readable, end_readable, found_below}, Spoken.{message_spoken}, Windows.{so_far_turned}}
@@ -14,6 +14,8 @@ use Rattle.takeover.specs.declared.{take_over.TakeOver.{TakeOver}, take_over.Tak
 use Rattle.transcript_law.proofs.links.PumpEnds.{so_ends}
 use Rattle.vb_events.specs.declared.event.StreamName.TheVariants.{Link}
 use Rattle.vb_events.specs.declared.event.Event.TheVariants as event
+use Rattle.vb_calls.proofs.JobReadings.{after_reads_bind}
+use Rattle.vb_calls.specs.Jobs.{Ended, after_reads}
 
 -- the vBucket without a stream of it
 abbrev pub closed_vb : Plain → ℕ → Plain
@@ -255,24 +257,24 @@ module _ (w : PlainWorld) (r : Chronicle) (l : ℕ) (link : PlainLink) (node : P
         refl,
       )
 
-      step_turn : StaysSound → (b : Bool) → t.answered ≡ b → Comes (after (alive_next name t.stream (Some (heir_step b))) states)
+      step_turn : StaysSound → (b : Bool) → t.answered ≡ b → Comes (after_reads (alive_next name t.stream (Some (heir_step b))) node.shelves states)
       step_turn stays true answered = subst (λ x. Comes x) (sym (ap (λ o. ((call_at states t.stream.vb (VbCall.CloseStream t.stream.id) o).0, over ALL_SENT t.stream)) has)) (close_turn stays answered)
       step_turn stays false answered = wait_turn answered
 
-    by_end : StaysSound → (b : Bool) → t.stream.ended ≡ b → Comes (after (next_by name t.stream None) states)
-    by_end stays true ended = subst (λ b. Comes (after (if b then Done (over STATE_CHANGED t.stream) else alive_next name t.stream t.stream.gives) states)) (sym ended) (ended_turn ended)
-    by_end stays false going = subst (λ b. Comes (after (if b then Done (over STATE_CHANGED t.stream) else alive_next name t.stream t.stream.gives) states)) (sym going)
-        (subst (λ o. Comes (after (alive_next name t.stream o) states)) (sym t.gives_is) (step_turn going stays t.answered refl))
+    by_end : StaysSound → (b : Bool) → t.stream.ended ≡ b → Comes (after_reads (next_by name t.stream None) node.shelves states)
+    by_end stays true ended = subst (λ b. Comes (after_reads (if b then Ended (over STATE_CHANGED t.stream) else alive_next name t.stream t.stream.gives) node.shelves states)) (sym ended) (ended_turn ended)
+    by_end stays false going = subst (λ b. Comes (after_reads (if b then Ended (over STATE_CHANGED t.stream) else alive_next name t.stream t.stream.gives) node.shelves states)) (sym going)
+        (subst (λ o. Comes (after_reads (alive_next name t.stream o) node.shelves states)) (sym t.gives_is) (step_turn going stays t.answered refl))
 
-    next_turn : StaysSound → Comes (after (next_frame name t.stream) states)
+    next_turn : StaysSound → Comes (after_reads (next_frame name t.stream) node.shelves states)
     unfolding next_frame
     next_turn stays = by (slice_get t.stream.items t.stream.next) refl
       where
-        by : (o : Option Change) → slice_get t.stream.items t.stream.next ≡ o → Comes (after (next_by name t.stream o) states)
+        by : (o : Option Change) → slice_get t.stream.items t.stream.next ≡ o → Comes (after_reads (next_by name t.stream o) node.shelves states)
         by None e = by_end stays t.stream.ended refl
         by (Some item) e = let l = found_below t.stream.items t.stream.next item e in let whole = t.whole in absurd (omega (arith, l, whole))
 
-    pub heir_turn : StaysSound → lets_through s.end ≡ true → TurnsSoFar w r l link node (after (one_frame (pull_of s none_quiet)) states)
+    pub heir_turn : StaysSound → lets_through s.end ≡ true → TurnsSoFar w r l link node (after_reads (one_frame (pull_of s none_quiet)) node.shelves states)
     heir_turn stays free =
-        subst (λ prog. TurnsSoFar w r l link node (after prog states)) (sym (one_frame_of s t.stream kept free))
-        (subst (TurnsSoFar w r l link node) (sym (after_bind (next_frame name t.stream) (λ next. Done (one_came s next)) states)) (next_turn stays))
+        subst (λ prog. TurnsSoFar w r l link node (after_reads prog node.shelves states)) (sym (one_frame_of s t.stream kept free))
+        (subst (TurnsSoFar w r l link node) (sym (after_reads_bind (next_frame name t.stream) (λ next. Ended (one_came s next)) node.shelves states)) (next_turn stays))

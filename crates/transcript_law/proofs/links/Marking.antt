@@ -148,7 +148,7 @@ moved_vb pv id end = record pv { streams = map (moved_on id end) pv.streams }
 
 -- the stream behind its marker, which ends there
 abbrev pub taken_stream : PlainStream → List Change → ℕ → PlainStream
-taken_stream stream items end = record stream { items = items; next = 0; marked = Some end }
+taken_stream stream items end = record stream { items = items; next = 0; marked = Some end; place = end }
 
 -- while a stream puts its snapshots, it does not matter up to where it did whether its vBucket was given up
 given_sending : (h : Handing) (given : Option ℕ) (place end : ℕ) → is_sending h ≡ true → GivenIn h given place → GivenIn h given end
@@ -168,7 +168,7 @@ marked_stream_begun : {o vb : ℕ} {g : Granted} {stream : PlainStream} {pv : Op
 marked_stream_begun {g = g} {stream} {feed = feed} {kn} {in_one} {h} tree items start end flags x s sending low starts whole fits covers lasts =
     let (y, found, ask, sync, place, taken) = x.opened in
     record {
-      put = record { vb_is = s.vb_is; opaque_is = s.opaque_is; no_end = record { until = s.no_end.until; marked = low }; first_is = s.first_is; marked_is = refl; fits = fits; next_in = omega arith; last = (covers, refl, lasts); log_lines = s.log_lines; front_is = s.front_is };
+      put = record { vb_is = s.vb_is; opaque_is = s.opaque_is; no_end = record { until = s.no_end.until; marked = low }; first_is = s.first_is; marked_is = refl; sync_is = s.sync_is; put_place = refl; none_unread = s.none_unread; fits = fits; next_in = omega arith; last = (covers, refl, lasts); log_lines = s.log_lines; front_is = s.front_is };
       opens = λ q. record { producer = moved_vb x.producer stream.id end; producer_is = refl; active = x.active; leads = x.leads; opened = (moved_stream y end, moved_here stream.id end x.producer.streams y found, ask, sync, refl, refl); reached = λ q. never q };
       given_in = given_sending h feed.given g.place end sending s.given_in;
       all_taken = λ q. never (sym sending ∙ pended_sends h q);

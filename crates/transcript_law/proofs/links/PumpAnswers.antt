@@ -3,13 +3,15 @@ use Rattle.std.specs.Prelude.{◌++◌, ◌+◌, ◌<◌, ◌∷◌, ◌≡◌, 
 use Rattle.transcript_law.proofs.Words.{Served, begun}
 use Rattle.transcript_law.proofs.Words.{why_of, frames_put, Halt, pull_result, PlainLink, moved_len, pump_at, pump_result, PlainNode}
 use Rattle.transcript_law.proofs.Words.{List, [], ap, arith, length, refl, subst, suc, sym, true, ℕ, ◌∙◌, filter-append, length-append, filter, both_sent_lines, frames_in_lines}
-use Rattle.transcript_law.proofs.Words.{Dial, Option, IsPumped, PutsAsTold, is_frame, after_bind, Done, after}
+use Rattle.transcript_law.proofs.Words.{Dial, Option, IsPumped, PutsAsTold, is_frame}
 use Rattle.transcript_law.proofs.Words.{Event, Why}
 use Rattle.transcript_law.proofs.lines.{Calm.{AnyKind, takes_any}, Pulling.{Lines, PutFew, Puts, pull_so}, Refusals.{CarriesOut}}
 use Rattle.dcp_producer.specs.Pulling.{frame_put}
-use Rattle.vb_calls.proofs.Conduct.{after_always}
 use Rattle.vb_calls.specs.Programs.{AnyCall}
 use Rattle.transcript_law.proofs.Words.{Frame, StreamName}
+use Rattle.vb_calls.proofs.JobConduct.{after_job_always}
+use Rattle.vb_calls.proofs.JobReadings.{after_job_bind}
+use Rattle.vb_calls.specs.Jobs.{Ended, IsRead, after_job}
 
 -- no more bytes are moved than were asked for
 pub moved_few : (wanted : ℕ) (queue : List ℕ) → moved_len wanted queue ≤ wanted
@@ -41,14 +43,15 @@ put_says k n s Halt.Idle c few = record { told = c.0 ∙ sym c.1; most = let sam
 put_says k n s Halt.Full c few = record { told = c.0 ∙ sym c.1; most = let same = c.0 in omega (arith, same, few); all = λ q. cc; only = λ q. let same = c.0 in absurd (omega (arith, same, few, q)) }
 put_says k n s Halt.WaitState c few = record { told = c.0 ∙ sym c.1; most = let same = c.0 in omega (arith, same, few); all = λ q. cc; only = λ q. let same = c.0 in absurd (omega (arith, same, few, q)) }
 put_says k n s Halt.WaitSaved c few = record { told = c.0 ∙ sym c.1; most = let same = c.0 in omega (arith, same, few); all = λ q. cc; only = λ q. let same = c.0 in absurd (omega (arith, same, few, q)) }
+put_says k n s Halt.Disk c few = record { told = c.0 ∙ sym c.1; most = let same = c.0 in omega (arith, same, few); all = λ q. cc; only = λ q. let same = c.0 in absurd (omega (arith, same, few, q)) }
 
 pub pump_says : (dial : Option Dial) (frames : ℕ) (link : PlainLink) (node : PlainNode) → CarriesOut (λ told. IsPumped dial frames told.events told.answer) (pump_at frames link node).1.1
 pump_says dial frames link node =
     let lines : Lines IsFrame = record { items = λ name c. refl; markers = λ name start end flags. refl; ends = λ name reason. refl; states = λ name told. refl } in
-    let first : Served = begun link.server in let x = after (frames_put frames first) node.vbs in
-    let put = after_always AnyCall (Puts AnyKind IsFrame takes_any lines Counted (λ n s end same c. c) one_more frames) (frames_put frames first) node.vbs
+    let first : Served = begun link.server in let x = after_job (frames_put frames first) node.vbs node.shelves in
+    let put = after_job_always AnyCall IsRead (Puts AnyKind IsFrame takes_any lines Counted (λ n s end same c. c) one_more frames) (frames_put frames first) node.vbs node.shelves
     (pull_so AnyKind IsFrame takes_any lines Counted (λ n s end same c. c) one_more frames first (refl, refl)) in
-    subst (λ y. CarriesOut (λ told. IsPumped dial frames told.events told.answer) (pump_result link node y).1.1) (sym (after_bind (frames_put frames first) (λ put. Done (pull_result link.up_heard put)) node.vbs))
+    subst (λ y. CarriesOut (λ told. IsPumped dial frames told.events told.answer) (pump_result link node y).1.1) (sym (after_job_bind (frames_put frames first) (λ put. Ended (pull_result link.up_heard put)) node.vbs node.shelves))
     (put_says frames put.0 x.1.0 x.1.1 put.1 put.2, λ why e s. cc)
 
 -- answers judged by hand

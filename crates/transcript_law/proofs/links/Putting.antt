@@ -103,6 +103,9 @@ item_streaming {fv} {kn} {pv} {leader} {asker = asker} {put = put} t c f opens e
           no_end = record { until = t.streams.no_end.until; marked = t.streams.no_end.marked };
           first_is = t.streams.first_is;
           marked_is = t.streams.marked_is ∙ sym same;
+          sync_is = t.streams.sync_is;
+          put_place = t.streams.put_place;
+          none_unread = t.streams.none_unread;
           fits = t.streams.fits;
           next_in = let l = found_below t.stream.items t.stream.next c e in omega arith;
           last = begun_more g.last t.stream c t.streams.last e;
@@ -290,6 +293,9 @@ state_streaming {pv = pv} {leader = leader} {asker = asker} {up = up} t next tol
             no_end = record { until = t.streams.no_end.until; marked = t.streams.no_end.marked };
             first_is = t.streams.first_is;
             marked_is = t.streams.marked_is;
+            sync_is = t.streams.sync_is;
+            put_place = t.streams.put_place;
+            none_unread = t.streams.none_unread;
             fits = t.streams.fits;
             next_in = t.streams.next_in;
             last = begun_stated t.granted_is.last t.stream (state_gives next) t.streams.last;

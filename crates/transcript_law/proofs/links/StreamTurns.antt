@@ -1,6 +1,6 @@
 -- one frame of a link's producer, of a stream that has a cursor or is given one, or waits
 use Rattle.std.specs.Prelude.{◌≡◌, ◌≤◌, ◌∷◌, slice_get}
-use Rattle.transcript_law.proofs.Words.{ℕ, Bool, true, false, [], length, map, refl, ap, sym, ◌∙◌, subst, Option, Some, None, Change, Chronicle, Cluster, Done, Plain, PlainLink, PlainNode, PlainWorld, Served, States, Stream, StreamName, TakesSnapshots, after, after_bind, after_lines, link_number, producer_node, row_at, stream_at}
+use Rattle.transcript_law.proofs.Words.{ℕ, Bool, true, false, [], length, map, refl, ap, sym, ◌∙◌, subst, Option, Some, None, Change, Chronicle, Cluster, Plain, PlainLink, PlainNode, PlainWorld, Served, States, Stream, StreamName, TakesSnapshots, after_lines, link_number, producer_node, row_at, stream_at}
 use Rattle.dcp_producer.proofs.OneStream.{one_came, one_frame_of}
 unfoldable use Rattle.dcp_producer.specs.Frames.{next_frame}
 use Rattle.dcp_producer.specs.Frames.{Next, next_by}
@@ -11,6 +11,8 @@ use Rattle.transcript_law.proofs.links.{Given.{agrees_given, asked_given, given_
 use Rattle.vb_calls.proofs.Placing.{given_here, with_cursor}
 use Rattle.vb_calls.specs.Streams.{given_cursor, is_in_memory}
 use Rattle.vb_events.specs.declared.event.StreamName.TheVariants.{Link}
+use Rattle.vb_calls.proofs.JobReadings.{after_reads_bind}
+use Rattle.vb_calls.specs.Jobs.{Ended, after_reads}
 
 module _ (w : PlainWorld) (r : Chronicle) (l : ℕ) (link : PlainLink) (node : PlainNode) (found : row_at link_number l w.links ≡ Some link) (states : States) (s : Served) (g : SoFar w r l link node states s) where
   open link.consumer.dialed use {vb}
@@ -41,11 +43,11 @@ module _ (w : PlainWorld) (r : Chronicle) (l : ℕ) (link : PlainLink) (node : P
       p = at.producer
 
       -- it has a cursor, or is given none
-      as_it_is : (is_sending t.handing ≡ true → IsPlaced w r l link node found states s g c a la t stated kept going) → Coming (after (next_by name t.stream None) states)
+      as_it_is : (is_sending t.handing ≡ true → IsPlaced w r l link node found states s g c a la t stated kept going) → Coming (after_reads (next_by name t.stream None) node.shelves states)
       as_it_is ready = alive_turn w r l link node found states s g c a la t stated kept going ready takes whole t.handing link.consumer.dialed.takeover refl refl
 
       -- or it is given one first
-      given_one : (o : Stream) → stream_at t.stream.id p.streams ≡ Some o → o.cursor ≡ false → is_in_memory p o.place ≡ true → is_sending t.handing ≡ true → Coming (after (next_by name t.stream None) states)
+      given_one : (o : Stream) → stream_at t.stream.id p.streams ≡ Some o → o.cursor ≡ false → is_in_memory p o.place ≡ true → is_sending t.handing ≡ true → Coming (after_reads (next_by name t.stream None) node.shelves states)
       given_one o opened none near sending =
           let then : States = given_states w r l link node found states s g c a la t stated kept going o opened none near in
           let g' : SoFar w r l link node then s = given_so_far w r l link node found states s g c a la t stated kept going o opened none near in
@@ -64,34 +66,34 @@ module _ (w : PlainWorld) (r : Chronicle) (l : ℕ) (link : PlainLink) (node : P
               let one : with_cursor o ≡ q = cc in
               let z : true ≡ false = ap (λ (y : Stream). y.cursor) one ∙ lost in cc
 
-      going_turn : Coming (after (next_by name t.stream None) states)
+      going_turn : Coming (after_reads (next_by name t.stream None) node.shelves states)
       going_turn = by (at.opened.0).cursor (is_in_memory p (at.opened.0).place) (is_sending t.handing) refl refl refl
         where
           -- the stream of its number is this one
           only : (o : Stream) → stream_at t.stream.id p.streams ≡ Some o → (at.opened.0) ≡ o
           only o its = let same : Some (at.opened.0) ≡ Some o = sym at.opened.1 ∙ its in cc
 
-          by : (has m sends : Bool) → (at.opened.0).cursor ≡ has → is_in_memory p (at.opened.0).place ≡ m → is_sending t.handing ≡ sends → Coming (after (next_by name t.stream None) states)
+          by : (has m sends : Bool) → (at.opened.0).cursor ≡ has → is_in_memory p (at.opened.0).place ≡ m → is_sending t.handing ≡ sends → Coming (after_reads (next_by name t.stream None) node.shelves states)
           by true m sends has near e = as_it_is (λ q o its none. let z : true ≡ false = sym has ∙ ap (λ (y : Stream). y.cursor) (only o its) ∙ none in cc)
           by false false sends none far e = as_it_is (λ q o its lost. ap (λ (y : Stream). is_in_memory p y.place) (sym (only o its)) ∙ far)
           by false true true none near e = given_one (at.opened.0) at.opened.1 none near e
           by false true false none near e = as_it_is (λ q. let z : true ≡ false = sym q ∙ e in cc)
 
     -- the next frame of the stream
-    next_turn : TakesSnapshots → Coming (after (next_frame name t.stream) states)
+    next_turn : TakesSnapshots → Coming (after_reads (next_frame name t.stream) node.shelves states)
     unfolding next_frame
     next_turn takes = by (slice_get t.stream.items t.stream.next) refl
       where
-        more : length t.stream.items ≤ t.stream.next → (b : Bool) → t.stream.ended ≡ b → Coming (after (next_by name t.stream None) states)
+        more : length t.stream.items ≤ t.stream.next → (b : Bool) → t.stream.ended ≡ b → Coming (after_reads (next_by name t.stream None) node.shelves states)
         more whole true ended = ended_turn w r l link node found states s g c a la t stated kept ended whole
         more whole false going = going_turn going takes whole
 
-        by : (o : Option Change) → slice_get t.stream.items t.stream.next ≡ o → Coming (after (next_by name t.stream o) states)
+        by : (o : Option Change) → slice_get t.stream.items t.stream.next ≡ o → Coming (after_reads (next_by name t.stream o) node.shelves states)
         by None e = more (not_found t.stream.items t.stream.next e) t.stream.ended refl
         by (Some item) e = item_turn w r l link node found states s g c a la t stated kept item e
 
     -- the next frame of the connection
-    pub stream_turn : TakesSnapshots → lets_through s.end ≡ true → TurnsSoFar w r l link node (after (one_frame (pull_of s none_quiet)) states)
+    pub stream_turn : TakesSnapshots → lets_through s.end ≡ true → TurnsSoFar w r l link node (after_reads (one_frame (pull_of s none_quiet)) node.shelves states)
     stream_turn takes free =
-        subst (λ prog. TurnsSoFar w r l link node (after prog states)) (sym (one_frame_of s t.stream kept free))
-        (subst (TurnsSoFar w r l link node) (sym (after_bind (next_frame name t.stream) (λ next. Done (one_came s next)) states)) (next_turn takes))
+        subst (λ prog. TurnsSoFar w r l link node (after_reads prog node.shelves states)) (sym (one_frame_of s t.stream kept free))
+        (subst (TurnsSoFar w r l link node) (sym (after_reads_bind (next_frame name t.stream) (λ next. Ended (one_came s next)) node.shelves states)) (next_turn takes))

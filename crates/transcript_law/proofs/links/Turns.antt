@@ -1,7 +1,7 @@
 -- one frame of a link's producer: an item, the marker of the next snapshot, a state, the stream's end, or nothing
 use Rattle.std.specs.Prelude.{◌≡◌, ◌+◌, ◌<◌, ◌≤◌, ◌++◌, if◌then◌else◌, ◌∷◌, ◌&&◌, ◌^◌}
 use Rattle.transcript_law.proofs.Words.{All, All-nil, Granted, ℕ, Bool, true, false, [], length, refl, ap, sym, ◌∙◌, subst, List, Option, Some, None, slice_get, Frame, Event}
-use Rattle.transcript_law.proofs.Words.{DcpMsg, dcp_frame, Change, StreamName, Member, Cluster, TakesSnapshots, Done, Turn, after, row_at, row_put, States, past_item, item_line, act_message}
+use Rattle.transcript_law.proofs.Words.{DcpMsg, dcp_frame, Change, StreamName, Member, Cluster, TakesSnapshots, Turn, after, row_at, row_put, States, past_item, item_line, act_message}
 use Rattle.transcript_law.proofs.Words.{STATE_CHANGED, Halt, PlainStream, Served, PlainLink, link_number, producer_node, consumer_node, PlainNode, PlainWorld, Role, StreamAsk}
 use Rattle.transcript_law.proofs.Words.{Chronicle, is_dial_of, with_item, finished, after_lines, item_of_change, Readable, inl, inr, ⊎_elim, arith, nat_tests, is_some, not, eq-eqb, ne_eqb}
 use Rattle.transcript_law.proofs.Words.{Position, Snapshot, Covers, effective_se, fork_of, hist, hist_rises, Rises, ground, Move, SoundCluster, Linked, happens, flight_from, flight_end, start_cases, keeps, VbReply, Stream, Span}
@@ -19,6 +19,8 @@ use Rattle.{transcript_law.specs.Chronicles.{with_changed}, transcript_law.specs
 use Rattle.transcript_law.proofs.{links.Idling.{active_is, all_put_by, no_more, none_told, put_whole}, links.PumpEnds.{act_none, marker_none, none_ends, so_ends}, lines.Takeovers.{lines_takeovers}}
 use Rattle.vb_events.specs.declared.event.Event.TheVariants as event
 use Rattle.transcript_law.{proofs.Words.{last_seq}, proofs.links.Sources.{from_memory}, specs.Lawfulness.{stream_saved}, specs.StreamLaws.{IsFromSource, IsUnreplaced}, specs.Feeding.{HasOpen}, specs.LinesTold.{TakeoverKnown}, specs.Undone.{AllPut, HasNoMore}}
+use Rattle.vb_calls.specs.Jobs.{Ended, after_reads}
+use Rattle.dcp_producer.specs.Frames.{changes_next}
 
 module _ (w : PlainWorld) (r : Chronicle) (l : ℕ) (link : PlainLink) (node : PlainNode) (found : row_at link_number l w.links ≡ Some link) (states : States) (s : Served) (g : SoFar w r l link node states s) where
   -- the vBucket at both ends
@@ -356,29 +358,29 @@ module _ (w : PlainWorld) (r : Chronicle) (l : ℕ) (link : PlainLink) (node : P
       taken_turn step = (with_vb_at (with_vb_at states t.stream.vb p) t.stream.vb step.0, taken_next name t.stream step.1.answer)
 
       -- what the stream puts, by how far its vBucket is handed over
-      gives_alive : (h : Handing) (b : Bool) → t.handing ≡ h → link.consumer.dialed.takeover ≡ b → after (next_by name t.stream None) states ≡ after (alive_next name t.stream (gives_in b h)) states
-      gives_alive h b e f = ap (λ b. after (if b then Done (over STATE_CHANGED t.stream) else alive_next name t.stream t.stream.gives) states) going ∙ ap (λ o. after (alive_next name t.stream o) states) (t.gives_is ∙ (λ i. gives_in (f i) (e i)))
+      gives_alive : (h : Handing) (b : Bool) → t.handing ≡ h → link.consumer.dialed.takeover ≡ b → after_reads (next_by name t.stream None) node.shelves states ≡ after_reads (alive_next name t.stream (gives_in b h)) node.shelves states
+      gives_alive h b e f = ap (λ b. after_reads (if b then Ended (over STATE_CHANGED t.stream) else alive_next name t.stream t.stream.gives) node.shelves states) going ∙ ap (λ o. after_reads (alive_next name t.stream o) node.shelves states) (t.gives_is ∙ (λ i. gives_in (f i) (e i)))
 
       -- the vBucket is asked where the stream's changes come from
       abbrev pub Places : Type 0
-      Places = after (next_by name t.stream None) states ≡ after (place_requested name t.stream) states
+      Places = after_reads (next_by name t.stream None) node.shelves states ≡ after_reads (place_requested name t.stream) node.shelves states
 
       abbrev Placed : Bool → Bool → Stream → States × Next
-      Placed has_one near o = after (placed_next name t.stream (place_said (Some (placed_by has_one near o p).1))) (with_vb_at states t.stream.vb (placed_by has_one near o p).0)
+      Placed has_one near o = after_reads (placed_next name t.stream (place_said (Some (placed_by has_one near o p).1))) node.shelves (with_vb_at states t.stream.vb (placed_by has_one near o p).0)
 
-      placed_turn : Places → (o : Stream) → stream_at t.stream.id p.streams ≡ Some o → after (next_by name t.stream None) states ≡ Placed o.cursor (is_in_memory p o.place) o
+      placed_turn : Places → (o : Stream) → stream_at t.stream.id p.streams ≡ Some o → after_reads (next_by name t.stream None) node.shelves states ≡ Placed o.cursor (is_in_memory p o.place) o
       placed_turn places o opened =
           let v : ℕ = t.stream.vb in let id : ℕ = t.stream.id in
           places
-          ∙ ap (λ x. after (placed_next name t.stream (place_said (call_at states v (Place id) x).1)) (call_at states v (Place id) x).0) has
-          ∙ ap (λ x. after (placed_next name t.stream (place_said (Some (place_from x p).1))) (with_vb_at states v (place_from x p).0)) opened
+          ∙ ap (λ x. after_reads (placed_next name t.stream (place_said (call_at states v (Place id) x).1)) node.shelves (call_at states v (Place id) x).0) has
+          ∙ ap (λ x. after_reads (placed_next name t.stream (place_said (Some (place_from x p).1))) node.shelves (with_vb_at states v (place_from x p).0)) opened
 
       -- it has no cursor, and not all of them are in memory: the stream waits
-      waited_turn : Places → (o : Stream) → stream_at t.stream.id p.streams ≡ Some o → o.cursor ≡ false → is_in_memory p o.place ≡ false → after (next_by name t.stream None) states ≡ (with_vb_at states t.stream.vb p, quiet Waits.Saved t.stream)
+      waited_turn : Places → (o : Stream) → stream_at t.stream.id p.streams ≡ Some o → o.cursor ≡ false → is_in_memory p o.place ≡ false → after_reads (next_by name t.stream None) node.shelves states ≡ (with_vb_at states t.stream.vb p, quiet Waits.Saved t.stream)
       waited_turn places o opened none far = placed_turn places o opened ∙ (λ i. Placed (none i) (far i) o)
 
       -- it has one: it was asked for the next snapshot
-      asked_turn : Places → (o : Stream) → stream_at t.stream.id p.streams ≡ Some o → o.cursor ≡ true → after (next_by name t.stream None) states ≡ taken_turn (take_to (end_span o (all_spans p.spans) p.held) o p)
+      asked_turn : Places → (o : Stream) → stream_at t.stream.id p.streams ≡ Some o → o.cursor ≡ true → after_reads (next_by name t.stream None) node.shelves states ≡ taken_turn (take_to (end_span o (all_spans p.spans) p.held) o p)
       asked_turn places o opened near =
           let v : ℕ = t.stream.vb in let id : ℕ = t.stream.id in let first : States = with_vb_at states v p in
           placed_turn places o opened
@@ -429,7 +431,7 @@ module _ (w : PlainWorld) (r : Chronicle) (l : ℕ) (link : PlainLink) (node : P
 
       -- what comes behind the items of the snapshot that was taken last, of a stream that puts its snapshots
       marker_turn : IsPlaced → TakesSnapshots → length t.stream.items ≤ t.stream.next → is_sending t.handing ≡ true → Places
-          → ((o : Stream) → IsNothing o → Comes (with_vb_at (with_vb_at states t.stream.vb p) t.stream.vb p, none_next name t.stream t.stream.gives)) → Comes (after (next_by name t.stream None) states)
+          → ((o : Stream) → IsNothing o → Comes (with_vb_at (with_vb_at states t.stream.vb p) t.stream.vb p, none_next name t.stream t.stream.gives)) → Comes (after_reads (next_by name t.stream None) node.shelves states)
       marker_turn ready takes whole sending places nothing =
           let (o, opened, asked, sync, placed, before) = at.opened in
           in_memory o.cursor o opened asked sync placed before refl
@@ -445,7 +447,7 @@ module _ (w : PlainWorld) (r : Chronicle) (l : ℕ) (link : PlainLink) (node : P
               (marker_so_far o snapshot moved_is opened asked placed before whole sending, refl)
 
           in_memory : (b : Bool) (o : Stream) → stream_at t.stream.id p.streams ≡ Some o → o.ask ≡ t.granted_is.ask → o.sync ≡ true → o.place ≡ t.granted_is.place → o.taken ≡ is_some t.granted_is.last
-              → o.cursor ≡ b → Comes (after (next_by name t.stream None) states)
+              → o.cursor ≡ b → Comes (after_reads (next_by name t.stream None) node.shelves states)
           in_memory false o opened asked sync placed before none = subst Comes (sym (waited_turn places o opened none (ready o opened none)))
               (quiet_so_far (with_vb_at states t.stream.vb p) waiting_so_far, waits_saved w r l link node found states s g c a la t stated kept going sending, record { full = λ e. cc; some = λ e. cc; waiting = λ e. cc })
           in_memory true o opened asked sync placed before near = subst Comes (sym (asked_turn places o opened near)) (by o opened asked sync placed before near (end_span o (all_spans p.spans) p.held) refl)
@@ -463,18 +465,22 @@ module _ (w : PlainWorld) (r : Chronicle) (l : ℕ) (link : PlainLink) (node : P
       wait_turn : is_sending t.handing ≡ false → Comes (states, quiet Waits.State t.stream)
       wait_turn rests = (quiet_so_far states g, waits_state w r l link node found states s g c a la t stated kept going rests, record { full = λ e. cc; some = λ e. cc; waiting = λ e. (t.stream, refl, going, waits_on w r l link node found states s g c a la t stated kept going rests) })
 
+      -- no backfill of it is to be read
+      none_read : after_reads (changes_next name t.stream t.stream.unread) node.shelves states ≡ after_reads (place_requested name t.stream) node.shelves states
+      none_read = ap (λ o. after_reads (changes_next name t.stream o) node.shelves states) t.streams.none_unread
+
       -- one that puts its snapshots asks its vBucket
       pub asks_place : is_sending t.handing ≡ true → Places
       asks_place sending = by t.handing link.consumer.dialed.takeover refl refl sending
         where
           by : (h : Handing) (b : Bool) → t.handing ≡ h → link.consumer.dialed.takeover ≡ b → is_sending h ≡ true → Places
-          by Handing.Unstated false e f sends = gives_alive Handing.Unstated false e f ∙ ap (λ b. after (if b then close_sent t.stream else place_requested name t.stream) states) endless
-          by Handing.Unstated true e f sends = gives_alive Handing.Unstated true e f
-          by Handing.Ceded b e f sends = gives_alive Handing.Ceded b e f
+          by Handing.Unstated false e f sends = gives_alive Handing.Unstated false e f ∙ ap (λ b. after_reads (if b then close_sent t.stream else changes_next name t.stream t.stream.unread) node.shelves states) endless ∙ none_read
+          by Handing.Unstated true e f sends = gives_alive Handing.Unstated true e f ∙ none_read
+          by Handing.Ceded b e f sends = gives_alive Handing.Ceded b e f ∙ none_read
           by other b e f sends = cc
 
       -- what comes behind the items, by how far the vBucket is handed over
-      pub alive_turn : (is_sending t.handing ≡ true → IsPlaced) → TakesSnapshots → length t.stream.items ≤ t.stream.next → (h : Handing) (b : Bool) → t.handing ≡ h → link.consumer.dialed.takeover ≡ b → Comes (after (next_by name t.stream None) states)
+      pub alive_turn : (is_sending t.handing ≡ true → IsPlaced) → TakesSnapshots → length t.stream.items ≤ t.stream.next → (h : Handing) (b : Bool) → t.handing ≡ h → link.consumer.dialed.takeover ≡ b → Comes (after_reads (next_by name t.stream None) node.shelves states)
       alive_turn ready takes whole Handing.Unstated false e f =
           marker_turn (ready (ap is_sending e)) takes whole (ap is_sending e) (asks_place (ap is_sending e))
           (λ o none. subst (λ x. Comes (with_vb_at (with_vb_at states t.stream.vb p) t.stream.vb p, none_next name t.stream x)) (sym (t.gives_is ∙ (λ i. gives_in (f i) (e i)))) (
@@ -500,6 +506,6 @@ module _ (w : PlainWorld) (r : Chronicle) (l : ℕ) (link : PlainLink) (node : P
       alive_turn ready takes whole Handing.Stated b e f = subst Comes (sym (gives_alive Handing.Stated b e f)) (wait_turn (ap is_sending e))
 
     -- the end of a stream that a change of role ended, behind its items
-    pub ended_turn : t.stream.ended ≡ true → length t.stream.items ≤ t.stream.next → Comes (after (next_by name t.stream None) states)
+    pub ended_turn : t.stream.ended ≡ true → length t.stream.items ≤ t.stream.next → Comes (after_reads (next_by name t.stream None) node.shelves states)
     ended_turn ended whole =
-        subst (λ b. Comes (after (if b then Done (over STATE_CHANGED t.stream) else alive_next name t.stream t.stream.gives) states)) (sym ended) (end_turn ended whole)
+        subst (λ b. Comes (after_reads (if b then Ended (over STATE_CHANGED t.stream) else alive_next name t.stream t.stream.gives) node.shelves states)) (sym ended) (end_turn ended whole)

@@ -125,6 +125,9 @@ ceded_streaming {fv} {kn} {leader = leader} {asker = asker} {up = up} {put = put
             no_end = record { until = x.no_end.until; marked = x.no_end.marked };
             first_is = x.first_is;
             marked_is = x.marked_is;
+            sync_is = x.sync_is;
+            put_place = x.put_place;
+            none_unread = x.none_unread;
             fits = x.fits;
             next_in = x.next_in;
             last = begun_left t.granted_is.last t.stream x.last;

@@ -2,7 +2,7 @@
 use Rattle.std.specs.Prelude.{◌≡◌, ◌<◌, ◌≤◌, ◌∷◌, ◌++◌, ◌^◌, ◌-◌, ◌&&◌, ◌||◌, ◌==◌, ◌⊎◌, if◌then◌else◌, Result, Ok, Err}
 use Rattle.std.specs.List.{list_any}
 use Rattle.dcp_producer.specs.Producers.{member_of, is_open, stream_at}
-use Rattle.dcp_producer.specs.Serving.{acknowledged, count_answered, count_requested, counted_by, counted_line, fed_stream, heard, high_of_reply, log_of_reply, new_stream, next_stream, opening_requested, opens, refusal_requested, weighed, with_asked, with_granted}
+use Rattle.dcp_producer.specs.Serving.{acknowledged, count_answered, count_requested, counted_by, counted_line, fed_stream, heard, high_of_reply, log_of_reply, new_stream, next_stream, opening_requested, opens, refusal_requested, weighed, with_asked, with_granted, place_of_reply}
 use Rattle.dcp_producer.specs.declared.desk.Named.{Named}
 use Rattle.node_world.specs.Links.{frame_up, frames_up, up_at, with_up}
 use Rattle.node_world.specs.Nodes.{all_posted}
@@ -110,7 +110,7 @@ module _ (f : Frame) (s : Served) (so : AllAsk s.events) where
     asked = by (opens s.end f.vb_or_status ask)
       where
         by : (b : Bool) → Always AnyCall Asks (if b then opening_requested f ask s else refusal_requested f ask s)
-        by true = (tt, λ reply any. told (with_granted (with_asked s.end) (next_stream s.end) f ask (ask_verdict reply)) (log_of_reply reply) (high_of_reply reply) (ask_verdict reply))
+        by true = (tt, λ reply any. told (with_granted (with_asked s.end) (next_stream s.end) f ask (place_of_reply reply) (ask_verdict reply)) (log_of_reply reply) (high_of_reply reply) (ask_verdict reply))
         by false = (tt, λ reply any. told s.end (log_of_reply reply) (high_of_reply reply) _)
 
 -- ---- the frames of the link

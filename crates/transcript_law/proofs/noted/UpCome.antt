@@ -2,7 +2,7 @@
 use Rattle.std.specs.Prelude.{◌≡◌, ◌<◌, ◌≤◌, ◌∷◌, ◌++◌, ◌||◌, ◌==◌, ◌⊎◌, if◌then◌else◌, Result, Ok, Err}
 use Rattle.std.specs.List.{list_any}
 use Rattle.dcp_producer.specs.Producers.{member_of, is_open, stream_at}
-use Rattle.dcp_producer.specs.Serving.{acknowledged, count_answered, count_requested, counted_by, counted_line, fed_stream, heard, high_of_reply, log_of_reply, new_stream, next_stream, opening_requested, opens, refusal_requested, weighed, with_asked, with_granted}
+use Rattle.dcp_producer.specs.Serving.{acknowledged, count_answered, count_requested, counted_by, counted_line, fed_stream, heard, high_of_reply, log_of_reply, new_stream, next_stream, opening_requested, opens, refusal_requested, weighed, with_asked, with_granted, place_of_reply}
 use Rattle.dcp_producer.specs.declared.desk.Named.{Named}
 use Rattle.node_world.specs.Links.{frame_up, frames_up, up_at, with_up}
 use Rattle.node_world.specs.Nodes.{all_posted}
@@ -25,6 +25,8 @@ use Rattle.transcript_law.proofs.verbs.{Settling.{Steady}, Tellings.{are_posts},
 use Rattle.transcript_law.specs.LawfulAnswers.{AllDurable}
 use Rattle.transcript_law.specs.Plainness.{IsOfClient}
 use Rattle.transcript_law.specs.TakeoverNotes.{is_grant_of}
+use Rattle.vb_types.specs.declared.stream.Place.{Place}
+use Rattle.dcp_producer.specs.Producers.{is_sync}
 
 -- ---- whether lines let the link continue
 
@@ -168,20 +170,20 @@ module _ (l : ℕ) (f : Frame) (s : Served) (none : grants l s.events ≡ false)
     abbrev Asked : Served → Type 0
     Asked s' = Ups l s'.events [] s'.end.streams
 
-    is_new : (id : ℕ) → IsNew (new_stream id f ask)
-    is_new id = record { goes = refl; gives = elim (ask.flags == 1) as (λ b. let g : Option GiveUp = if b then Some new_give_up else None in (g ≡ None) ⊎ (g ≡ Some new_give_up)) [ true ↦ inr refl | false ↦ inl refl ] }
+    is_new : (id : ℕ) (from : Place) → IsNew (new_stream id f ask (is_sync s.end.handshake) from)
+    is_new id from = record { goes = refl; gives = elim (ask.flags == 1) as (λ b. let g : Option GiveUp = if b then Some new_give_up else None in (g ≡ None) ⊎ (g ≡ Some new_give_up)) [ true ↦ inr refl | false ↦ inl refl ] }
 
     still_none : (lines : List Event) → Ups l lines [] s.end.streams
     still_none lines = subst (Ups l lines []) (sym empty) tt
 
-    told : (log : List LogEntry) (high : ℕ) (said : AskAnswer) → Asked (stream_answered f ask (record s { end = with_granted (with_asked s.end) (next_stream s.end) f ask said }) log high said)
+    told : (from : Place) (log : List LogEntry) (high : ℕ) (said : AskAnswer) → Asked (stream_answered f ask (record s { end = with_granted (with_asked s.end) (next_stream s.end) f ask from said }) log high said)
     unfolding stream_answered
-    told log high AskAnswer.Go =
+    told from log high AskAnswer.Go =
         let line : Event = Event.Asked s.end.desk.stream s.end.desk.node f.vb_or_status ask high log AskAnswer.Go in
         let granted : grants l (line ∷ []) ≡ true = ap (λ name. is_grant_of l (Event.Asked name s.end.desk.node f.vb_or_status ask high log AskAnswer.Go) || false) named ∙ ap (λ b. b || false) (eq-eqb l l refl) in
-        subst (λ ss. Ups l (s.events ++ line ∷ []) [] (ss ++ new_stream (next_stream s.end) f ask ∷ [])) (sym empty) (some_back l s.events (line ∷ []) granted, is_new (next_stream s.end))
-    told log high (AskAnswer.Roll to) = still_none (s.events ++ Event.Asked s.end.desk.stream s.end.desk.node f.vb_or_status ask high log (AskAnswer.Roll to) ∷ [])
-    told log high (AskAnswer.Refuse code) = still_none (s.events ++ Event.Asked s.end.desk.stream s.end.desk.node f.vb_or_status ask high log (AskAnswer.Refuse code) ∷ [])
+        subst (λ ss. Ups l (s.events ++ line ∷ []) [] (ss ++ new_stream (next_stream s.end) f ask (is_sync s.end.handshake) from ∷ [])) (sym empty) (some_back l s.events (line ∷ []) granted, is_new (next_stream s.end) from)
+    told from log high (AskAnswer.Roll to) = still_none (s.events ++ Event.Asked s.end.desk.stream s.end.desk.node f.vb_or_status ask high log (AskAnswer.Roll to) ∷ [])
+    told from log high (AskAnswer.Refuse code) = still_none (s.events ++ Event.Asked s.end.desk.stream s.end.desk.node f.vb_or_status ask high log (AskAnswer.Refuse code) ∷ [])
 
     told_none : (log : List LogEntry) (high : ℕ) (said : AskAnswer) → Asked (stream_answered f ask s log high said)
     unfolding stream_answered
@@ -192,7 +194,7 @@ module _ (l : ℕ) (f : Frame) (s : Served) (none : grants l s.events ≡ false)
     asked = by (opens s.end f.vb_or_status ask)
       where
         by : (b : Bool) → Always AnyCall Asked (if b then opening_requested f ask s else refusal_requested f ask s)
-        by true = (tt, λ reply any. told (log_of_reply reply) (high_of_reply reply) (ask_verdict reply))
+        by true = (tt, λ reply any. told (place_of_reply reply) (log_of_reply reply) (high_of_reply reply) (ask_verdict reply))
         by false = (tt, λ reply any. told_none (log_of_reply reply) (high_of_reply reply) _)
 
 -- the answer to a state is heard by the streams that wait for it

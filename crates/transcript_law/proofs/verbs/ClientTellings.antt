@@ -1,11 +1,12 @@
 -- each line for a client tells of nothing else than it may
 use Rattle.std.specs.Prelude.{◌≡◌, ◌∷◌, ◌&&◌}
-use Rattle.transcript_law.proofs.Words.{ℕ, Bool, true, false, List, [], refl, sym, subst, eq-eqb, Option, Some, None, Chronicle, ClientVerb, Event, PlainNode, StreamName, after, bytes_at, bytes_if}
+use Rattle.transcript_law.proofs.Words.{ℕ, Bool, true, false, List, [], refl, sym, subst, eq-eqb, Option, Some, None, Chronicle, ClientVerb, Event, PlainNode, StreamName, Told, after, bytes_at, bytes_if}
 use Rattle.node_core.specs.Clients.{Handling, PlainClient, client_fed}
 use Rattle.node_world.specs.Nodes.{pull_at, pull_if}
 use Rattle.transcript_law.proofs.lines.{ClientLines.{AllKept}, PullTold.{ArePut, pull_told}, SessionLines.{AreTo, IsKept, LeftBy, fed_at}}
 use Rattle.transcript_law.proofs.verbs.Tellings.{Are, Tell, are_cons, are_more, same_place, tell_all}
 use Rattle.transcript_law.specs.Tellings.{at_client, is_of_client, is_of_end, is_of_pull}
+use Rattle.transcript_law.proofs.lines.Reads.{pull_is}
 
 module _ (r : Chronicle) (n c : ℕ) where
   abbrev Tells : ClientVerb → List Event → Type 0
@@ -48,4 +49,4 @@ module _ (r : Chronicle) (n c : ℕ) where
     where
       by : (o : Option PlainClient) → IsKept n c o → Are (is_of_pull n c) (pull_if c wanted node o).1.events
       by None k = refl
-      by (Some client) k = put_are _ (pull_told n c wanted client node.vbs k).0
+      by (Some client) k = subst (λ (y : PlainNode × Told). Are (is_of_pull n c) y.1.events) (sym (pull_is c wanted node (Some client))) (put_are _ (pull_told n c wanted client node.shelves node.vbs k).0)

@@ -2,8 +2,8 @@
 use Rattle.transcript_law.proofs.links.PumpEnds.{PutsSo, puts_none}
 use Rattle.node_world.specs.Links.{with_server}
 use Rattle.std.specs.Prelude.{◌≡◌, ◌⊎◌, ◌++◌}
-use Rattle.transcript_law.proofs.Words.{ℕ, zero, suc, Bool, List, [], true, false, refl, ap, sym, ◌∙◌, subst, inl, inr, append-nil, Some, StaysSound, TakesSnapshots, Done, Turn, More, Stop, go_on, repeated, after, row_at, row_put, States}
-use Rattle.transcript_law.proofs.Words.{after_bind, frames_put, pulled, Halt, Served, begun, pull_result, PlainLink, link_number, producer_node, peer_of, pump_result, pump_at, PlainNode, Event, PlainStream}
+use Rattle.transcript_law.proofs.Words.{ℕ, zero, suc, Bool, List, [], true, false, refl, ap, sym, ◌∙◌, subst, inl, inr, append-nil, Some, StaysSound, TakesSnapshots, Turn, More, Stop, row_at, row_put, States}
+use Rattle.transcript_law.proofs.Words.{frames_put, pulled, Halt, Served, begun, pull_result, PlainLink, link_number, producer_node, peer_of, pump_at, PlainNode, Event, PlainStream}
 use Rattle.transcript_law.proofs.Words.{PlainWorld, with_states, with_node_at, with_link, on_link, Chronicle, PullResult, peer_pulled, after_lines, link_outcome, node_outcome, refusal, why_of, Answer, Cause, Option, None, Outcome, Why, All, All-head}
 use Rattle.{dcp_producer.specs.Pulling.{Pulling, none_quiet, one_frame, pull_of}}
 use Rattle.transcript_law.proofs.invariant.Agreement.{idle, Agrees, GoesOn}
@@ -17,6 +17,9 @@ use Rattle.{node_core.proofs.GivingLaws.{shut}}
 use Rattle.{transcript_law.specs.{TakeoverLines.{TakeoverFrom}, Tellings.{are_all, is_of_pump}, TakeoverNotes.{is_state_of}, Pulls.{PutsAsTold}, LineAnswers.{IsPumped}}}
 use Rattle.transcript_law.proofs.{disks.Disks.{power_in}, invariant.Agreement.{IsLink, is_running}, lines.Pulling.{lets_through}}
 use Rattle.transcript_law.proofs.verbs.{NodeLines.{as_told, node_of_same_vbs}}
+use Rattle.vb_calls.proofs.JobReadings.{after_reads_bind}
+use Rattle.vb_calls.specs.Jobs.{Ended, after_reads, go_on_job, repeated_job}
+use Rattle.transcript_law.proofs.lines.Reads.{pump_read, pump_reads, pumps_read}
 
 -- no pull is answered as it is refused, or for another reason
 is_pulled : Answer → Bool
@@ -77,25 +80,25 @@ module _ (takes : TakesSnapshots) (stays : StaysSound) where
     abbrev pub l : ℕ
     l = link_number link
 
-    next_turn : (states : States) (x : Turn Pulling (Served × Halt)) → TurnSoFar w r l link node states x → TurnsSoFar w r l link node (after (go_on one_frame x) states)
-    next_turn states (More p) g = subst (λ q. TurnsSoFar w r l link node (after (one_frame (pull_of p.served q)) states)) (sym g.1) (turn w r l link node found states p.served g.0 takes stays)
+    next_turn : (states : States) (x : Turn Pulling (Served × Halt)) → TurnSoFar w r l link node states x → TurnsSoFar w r l link node (after_reads (go_on_job one_frame x) node.shelves states)
+    next_turn states (More p) g = subst (λ q. TurnsSoFar w r l link node (after_reads (one_frame (pull_of p.served q)) node.shelves states)) (sym g.1) (turn w r l link node found states p.served g.0 takes stays)
     next_turn states (Stop stopped) g = g
 
-    pub turns : (k : ℕ) (states : States) (s : Served) → SoFar w r l link node states s → TurnsSoFar w r l link node (after (repeated k one_frame (pull_of s none_quiet)) states)
+    pub turns : (k : ℕ) (states : States) (s : Served) → SoFar w r l link node states s → TurnsSoFar w r l link node (after_reads (repeated_job k one_frame (pull_of s none_quiet)) node.shelves states)
     turns zero states s g = (g, refl)
     turns (suc k) states s g =
         let p : Pulling = pull_of s none_quiet in
-        subst (TurnsSoFar w r l link node) (sym (after_bind (repeated k one_frame p) (go_on one_frame) states))
-        (next_turn (after (repeated k one_frame p) states).0 (after (repeated k one_frame p) states).1 (turns k states s g))
+        subst (TurnsSoFar w r l link node) (sym (after_reads_bind (repeated_job k one_frame p) (go_on_job one_frame) node.shelves states))
+        (next_turn (after_reads (repeated_job k one_frame p) node.shelves states).0 (after_reads (repeated_job k one_frame p) node.shelves states).1 (turns k states s g))
 
     abbrev Gone : States × PullResult → Type 0
-    Gone y = GoesOn r (λ x. x) (with_link link (with_node_at w (producer_node link) (pump_result link node y).0, (pump_result link node y).1))
+    Gone y = GoesOn r (λ x. x) (with_link link (with_node_at w (producer_node link) (pump_read link node y).0, (pump_read link node y).1))
 
     -- what is told of the line
     abbrev pub known_of : States × (Served × Halt) → States × PullResult
     known_of x = (x.0, pull_result link.up_heard x.1)
 
-    ended : (states : States) (x : Turn Pulling (Served × Halt)) → TurnSoFar w r l link node states x → Gone (known_of (after (pulled x) states))
+    ended : (states : States) (x : Turn Pulling (Served × Halt)) → TurnSoFar w r l link node states x → Gone (known_of (after_reads (pulled x) node.shelves states))
     ended states (More p) g = (g.0.lawful, g.0.agrees)
     ended states (Stop stopped) g = (g.0.lawful, g.0.agrees)
 
@@ -120,7 +123,7 @@ module _ (takes : TakesSnapshots) (stays : StaysSound) where
         has_waited (list_any (is_state_of l) events) stream link.server.streams
         (All-head (λ (y : PlainStream). HasStep (list_any (is_state_of l) events) y link.server.streams) stream [] (subst (All (λ (y : PlainStream). HasStep (list_any (is_state_of l) events) y link.server.streams)) one stepped)) going waits
 
-    stops : (states : States) (x : Turn Pulling (Served × Halt)) → TurnSoFar w r l link node states x → Stops (known_of (after (pulled x) states))
+    stops : (states : States) (x : Turn Pulling (Served × Halt)) → TurnSoFar w r l link node states x → Stops (known_of (after_reads (pulled x) node.shelves states))
     stops states (More p) g = record {
       stopped = λ n why e. let is : Why.All ≡ why = cc in subst (Stopped (after_lines r p.served.events) l) is (all_stopped (after_lines r p.served.events));
       waits = λ n e. let is : Why.All ≡ Why.WaitState = cc in cc;
@@ -169,20 +172,20 @@ module _ (takes : TakesSnapshots) (stays : StaysSound) where
         ends = puts_none r link;
       }
 
-      node_goes : (frames : ℕ) → Gone (after (peer_pulled frames (peer_of link)) node.vbs)
+      node_goes : (frames : ℕ) → Gone (after_reads (peer_pulled frames (peer_of link)) node.shelves node.vbs)
       unfolding frames_put
       node_goes frames =
-          let x = after (repeated frames one_frame (pull_of first none_quiet)) node.vbs in
+          let x = after_reads (repeated_job frames one_frame (pull_of first none_quiet)) node.shelves node.vbs in
           subst Gone
-          (sym (after_bind (frames_put frames first) (λ put. Done (pull_result link.up_heard put)) node.vbs ∙ ap known_of (after_bind (repeated frames one_frame (pull_of first none_quiet)) pulled node.vbs)))
+          (sym (after_reads_bind (frames_put frames first) (λ put. Ended (pull_result link.up_heard put)) node.shelves node.vbs ∙ ap known_of (after_reads_bind (repeated_job frames one_frame (pull_of first none_quiet)) pulled node.shelves node.vbs)))
           (ended x.0 x.1 (turns frames node.vbs first first_so_far))
 
-      node_stops : (frames : ℕ) → Stops (after (peer_pulled frames (peer_of link)) node.vbs)
+      node_stops : (frames : ℕ) → Stops (after_reads (peer_pulled frames (peer_of link)) node.shelves node.vbs)
       unfolding frames_put
       node_stops frames =
-          let x = after (repeated frames one_frame (pull_of first none_quiet)) node.vbs in
+          let x = after_reads (repeated_job frames one_frame (pull_of first none_quiet)) node.shelves node.vbs in
           subst Stops
-          (sym (after_bind (frames_put frames first) (λ put. Done (pull_result link.up_heard put)) node.vbs ∙ ap known_of (after_bind (repeated frames one_frame (pull_of first none_quiet)) pulled node.vbs)))
+          (sym (after_reads_bind (frames_put frames first) (λ put. Ended (pull_result link.up_heard put)) node.shelves node.vbs ∙ ap known_of (after_reads_bind (repeated_job frames one_frame (pull_of first none_quiet)) pulled node.shelves node.vbs)))
           (stops x.0 x.1 (turns frames node.vbs first first_so_far))
 
       -- through a window that is shut nothing goes
@@ -190,40 +193,40 @@ module _ (takes : TakesSnapshots) (stays : StaysSound) where
       ShutAt (More p) = p ≡ pull_of first none_quiet
       ShutAt (Stop stopped) = why_of stopped.1 ≡ Why.Full
 
-      shut_next : lets_through link.server ≡ false → (states : States) (x : Turn Pulling (Served × Halt)) → ShutAt x → ShutAt (after (go_on one_frame x) states).1
-      shut_next shut states (More p) e = subst (λ q. ShutAt (after (one_frame q) states).1) (sym e) (subst (λ prog. ShutAt (after prog states).1) (sym (shut_frame_of first none_quiet shut)) refl)
+      shut_next : lets_through link.server ≡ false → (states : States) (x : Turn Pulling (Served × Halt)) → ShutAt x → ShutAt (after_reads (go_on_job one_frame x) node.shelves states).1
+      shut_next shut states (More p) e = subst (λ q. ShutAt (after_reads (one_frame q) node.shelves states).1) (sym e) (subst (λ prog. ShutAt (after_reads prog node.shelves states).1) (sym (shut_frame_of first none_quiet shut)) refl)
       shut_next shut states (Stop stopped) e = e
 
-      shut_turns : lets_through link.server ≡ false → (k : ℕ) → ShutAt (after (repeated k one_frame (pull_of first none_quiet)) node.vbs).1
+      shut_turns : lets_through link.server ≡ false → (k : ℕ) → ShutAt (after_reads (repeated_job k one_frame (pull_of first none_quiet)) node.shelves node.vbs).1
       shut_turns shut zero = refl
       shut_turns shut (suc k) =
-          let x = after (repeated k one_frame (pull_of first none_quiet)) node.vbs in
-          subst (λ (y : States × Turn Pulling (Served × Halt)). ShutAt y.1) (sym (after_bind (repeated k one_frame (pull_of first none_quiet)) (go_on one_frame) node.vbs)) (shut_next shut x.0 x.1 (shut_turns shut k))
+          let x = after_reads (repeated_job k one_frame (pull_of first none_quiet)) node.shelves node.vbs in
+          subst (λ (y : States × Turn Pulling (Served × Halt)). ShutAt y.1) (sym (after_reads_bind (repeated_job k one_frame (pull_of first none_quiet)) (go_on_job one_frame) node.shelves node.vbs)) (shut_next shut x.0 x.1 (shut_turns shut k))
 
       abbrev Frees : States × PullResult → Type 0
       Frees y = (n : ℕ) → y.1.answer ≡ Answer.Pulled n Why.WaitState → ⊥
 
-      shut_says : (states : States) (x : Turn Pulling (Served × Halt)) → ShutAt x → Frees (known_of (after (pulled x) states))
+      shut_says : (states : States) (x : Turn Pulling (Served × Halt)) → ShutAt x → Frees (known_of (after_reads (pulled x) node.shelves states))
       shut_says states (More p) e n q = let z : Why.All ≡ Why.WaitState = cc in all_state z
       shut_says states (Stop stopped) e n q = let is : why_of stopped.1 ≡ Why.WaitState = cc in full_state (sym e ∙ is)
 
-      node_shut : (frames : ℕ) → lets_through link.server ≡ false → Frees (after (peer_pulled frames (peer_of link)) node.vbs)
+      node_shut : (frames : ℕ) → lets_through link.server ≡ false → Frees (after_reads (peer_pulled frames (peer_of link)) node.shelves node.vbs)
       unfolding frames_put
       node_shut frames shut =
-          let x = after (repeated frames one_frame (pull_of first none_quiet)) node.vbs in
+          let x = after_reads (repeated_job frames one_frame (pull_of first none_quiet)) node.shelves node.vbs in
           subst Frees
-          (sym (after_bind (frames_put frames first) (λ put. Done (pull_result link.up_heard put)) node.vbs ∙ ap known_of (after_bind (repeated frames one_frame (pull_of first none_quiet)) pulled node.vbs)))
+          (sym (after_reads_bind (frames_put frames first) (λ put. Ended (pull_result link.up_heard put)) node.shelves node.vbs ∙ ap known_of (after_reads_bind (repeated_job frames one_frame (pull_of first none_quiet)) pulled node.shelves node.vbs)))
           (shut_says x.0 x.1 (shut_turns shut frames))
 
   pub frames_go : (w : PlainWorld) (r : Chronicle) (l frames : ℕ) (link : PlainLink) (node : PlainNode) → Agrees w r → row_at link_number l w.links ≡ Some link → w.nodes (producer_node link) ≡ Some node → LinkKnown r r link → PutsOn w frames r l (on_link w l producer_node (pump_at frames))
   frames_go w r l frames link node a found known noted =
       let number : link_number link ≡ l = (found_is_link l w.links link found).1 in
       let there : row_at link_number (link_number link) w.links ≡ Some link = subst (λ k. row_at link_number k w.links ≡ Some link) (sym number) found in
-      let is : on_link w l producer_node (pump_at frames) ≡ with_link link (with_node_at w (producer_node link) (pump_result link node (after (peer_pulled frames (peer_of link)) node.vbs)).0, (pump_result link node (after (peer_pulled frames (peer_of link)) node.vbs)).1) =
-      ap (link_outcome w l producer_node (pump_at frames)) found ∙ ap (λ o. with_link link (node_outcome w (producer_node link) (Some link, refusal Cause.UnknownNode) o (pump_at frames link))) known in
-      let y = after (peer_pulled frames (peer_of link)) node.vbs in
+      let is : on_link w l producer_node (pump_at frames) ≡ with_link link (with_node_at w (producer_node link) (pump_read link node (after_reads (peer_pulled frames (peer_of link)) node.shelves node.vbs)).0, (pump_read link node (after_reads (peer_pulled frames (peer_of link)) node.shelves node.vbs)).1) =
+      ap (on_link w l producer_node) (pumps_read frames) ∙ ap (link_outcome w l producer_node (pump_reads frames)) found ∙ ap (λ o. with_link link (node_outcome w (producer_node link) (Some link, refusal Cause.UnknownNode) o (pump_reads frames link))) known in
+      let y = after_reads (peer_pulled frames (peer_of link)) node.shelves node.vbs in
       let x = node_stops w r link node there a known noted frames in
-      let told : IsPumped None frames y.1.events y.1.answer = (pump_says None frames link node).0 in
+      let told : IsPumped None frames y.1.events y.1.answer = subst (λ pump. IsPumped None frames (pump link node).1.1.events (pump link node).1.1.answer) (pumps_read frames) (pump_says None frames link node).0 in
       subst (PutsOn w frames r l) (sym is) (record {
         goes = node_goes w r link node there a known noted frames;
         hands = x.hands;
@@ -248,7 +251,7 @@ module _ (takes : TakesSnapshots) (stays : StaysSound) where
       there' : row_at link_number (link_number link) w.links ≡ Some link
       there' = subst (λ k. row_at link_number k w.links ≡ Some link) (sym (found_is_link l w.links link found).1) found
 
-      by : (b : Bool) → lets_through link.server ≡ b → (n : ℕ) → (after (peer_pulled frames (peer_of link)) node.vbs).1.answer ≡ Answer.Pulled n Why.WaitState → lets_through link.server ≡ true
+      by : (b : Bool) → lets_through link.server ≡ b → (n : ℕ) → (after_reads (peer_pulled frames (peer_of link)) node.shelves node.vbs).1.answer ≡ Answer.Pulled n Why.WaitState → lets_through link.server ≡ true
       by true e n q = e
       by false e n q = absurd (node_shut w r link node there' a known noted frames e n q)
 

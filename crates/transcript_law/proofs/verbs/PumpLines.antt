@@ -7,14 +7,15 @@ use Rattle.node_core.specs.GivingUp.{GiveResult, dead_line, peer_gives_up, resol
 use Rattle.node_core.specs.Peers.{PullResult, peer_pulled}
 use Rattle.node_world.proofs.GivesFirst.{gives_first}
 use Rattle.node_world.specs.{GivesFirst.{losing_end}, Nodes.{all_posted}, Pumps.{gives_at, with_end, with_given, with_gone}, Turns.{posted_at, posted_in}, World.{pump_outcome, pump_step, put_behind}}
-use Rattle.transcript_law.proofs.invariant.{AtRest.{Still, link_still, posts_in_still, still_put, still_ran, still_steps}, CallsKept.{AllIn, InWorld, ended_all}, TimelyCalls.{gives_tame, pulled_tame}}
-use Rattle.transcript_law.proofs.invariant.Ranged.{IsRanged, NodeRangedIf, on_link_ranged, posts_in_ranged, same_ranged, with_ended_ranged, with_node}
-use Rattle.transcript_law.proofs.lines.{Calm.{Calm, Spared, all_posts_calm, calm_map, calm_more, pump_calm}, Refusals.{Anything, Same, on_link_says, unchanged}}
+use Rattle.transcript_law.proofs.invariant.{AtRest.{Still, link_still, posts_in_still, still_job, still_put, still_ran, still_steps}, CallsKept.{AllIn, InWorld, ended_all}, TimelyCalls.{gives_tame, pulled_tame}}
+use Rattle.transcript_law.proofs.invariant.Ranged.{IsRanged, NodeRanged, NodeRangedIf, on_link_ranged, posts_in_ranged, same_ranged, with_ended_ranged, with_node}
+use Rattle.transcript_law.proofs.lines.{Calm.{Calm, Spared, all_posts_calm, calm_map, calm_more, pump_calm}, Refusals.{Anything, CarriesOut, Same, on_link_says, unchanged}}
 use Rattle.transcript_law.proofs.Words.{Chronicle, StaysSound, TakesSnapshots, after_lines}
 use Rattle.transcript_law.proofs.{invariant.{Agreement.{Agrees}, Carried.{link_kept}, FedLines.{pump_fed as puts_fed}, Feeding.{AllFed, AllKept, Fine}}, links.{PumpAnswers.{pump_says}, PumpWorlds.{AllKnown}}, verbs.{NodeLines.{on_link_by}, Pumping.{gave_stands}, Settling.{Steady}}}
-use Rattle.transcript_law.specs.{Firings.{FiresAsSaid}, LawfulAnswers.{AllDurable}, Plainness.{IsStanding}}
+use Rattle.transcript_law.specs.{Firings.{FiresAsSaid}, LawfulAnswers.{AllDurable}, LineAnswers.{IsPumped}, Plainness.{IsStanding}}
 use Rattle.vb_calls.specs.declared.calls.Resolved.{Resolved}
 use Rattle.vbucket.specs.Laws.{IsTimely}
+use Rattle.transcript_law.proofs.lines.Reads.{pump_reads, pumps_read}
 
 -- ---- streams that end as vBuckets are given up
 
@@ -89,7 +90,7 @@ module _ (w : PlainWorld) (l frames : ℕ) where
         by : (o : Option PlainLink) → IsRanged (pump_outcome w l frames o).0
         by None = ranged
         by (Some link) = on_link_ranged (first link (w.nodes (producer_node link))).0 l producer_node (pump_at frames) (gives_ranged link (w.nodes (producer_node link)) refl)
-            (λ link n node here. same_ranged n node (pump_at frames link node).0.vbs node.made here)
+            (λ link n node here. subst (λ pump. NodeRanged n (pump link node).0) (sym (pumps_read frames)) (same_ranged n node (pump_reads frames link node).0.vbs node.made here))
 
     pub pump_still : InWorld Still w → InWorld Still (pump_step w l frames).0
     pump_still all = by found
@@ -99,7 +100,7 @@ module _ (w : PlainWorld) (l frames : ℕ) where
         by (Some link) =
             let o : Option PlainNode = w.nodes (producer_node link) in
             link_still (first link o).0 (gives_ranged link o refl) (gives_still all link o refl) l producer_node (pump_at frames)
-            (λ link node at there. still_ran (peer_pulled frames (peer_of link)) node.vbs (pulled_tame frames (peer_of link)) there)
+            (λ link node at there. still_job (peer_pulled frames (peer_of link)) node.vbs node.shelves (pulled_tame frames (peer_of link)) there)
 
     pub pump_spared : Spared (pump_step w l frames).1
     pump_spared = by found
@@ -129,8 +130,8 @@ module _ (w : PlainWorld) (l frames : ℕ) where
       made link is (Some node) known =
           let g = gives_first w 0 l frames link node is known in
           let peer = record g.gave.peer { producer = losing_end g.gave.given g.gave.peer.producer } in
-          let stands = (pump_says None frames (with_end link peer) g.posted).1 in
-          absurd (stands why (ap (λ (x : States × PullResult). x.1.answer) g.puts ∙ sym g.said ∙ e) s)
+          let stands = subst (λ pump. CarriesOut (λ told. IsPumped None frames told.events told.answer) (pump (with_end link peer) g.posted).1.1) (pumps_read frames) (pump_says None frames (with_end link peer) g.posted) in
+          absurd (stands.1 why (ap (λ (x : States × PullResult). x.1.answer) g.puts ∙ sym g.said ∙ e) s)
 
       by : (o : Option PlainLink) → found ≡ o → Kept found
       by None none = subst Kept (sym none) (unchanged w, refl)

@@ -1,7 +1,7 @@
 use Rattle.node_threads.specs.Seats.{has_row, mine_of, seat_made, seat_step}
 use Rattle.node_threads.proofs.Lists.{made_quietly, told}
-use Rattle.node_told.proofs.Conns.{answers, drops, hearing, outcomes, pieces, pulls, yields}
-use Rattle.node_told.proofs.Disks.{dials, flushes, makes, operators}
+use Rattle.node_told.proofs.Conns.{answers, drops, hearing, outcomes, pieces, yields}
+use Rattle.node_told.proofs.Disks.{dials, flushes, makes, operators, pulls}
 use Rattle.node_told.proofs.Settles.{dues, settles}
 use Rattle.node_told.proofs.laws.nodes_over_seats_are_told.Goals as goal
 
@@ -18,7 +18,7 @@ pub returns-clause-outcomes : goal.returns-clause-outcomes
 returns-clause-outcomes g c = outcomes seat_step mine_of told
 
 pub returns-clause-pulls : goal.returns-clause-pulls
-returns-clause-pulls g c = pulls seat_step mine_of told
+returns-clause-pulls g c = pulls seat_step g.J.Journals.asks mine_of told
 
 pub returns-clause-yields : goal.returns-clause-yields
 returns-clause-yields g c = yields seat_step mine_of told

@@ -13,7 +13,7 @@ invariant_of-self g c =
 pub returns-in_err-next-clause-err : goal.returns-in_err-next-clause-err
 returns-in_err-next-clause-err g c stream there =
     on_err c.from_residual.result _
-    (asked_began g.A.VbAccess.step _ c.args.self.now c.self.view_is c.args.quiet.now c.args.at c.index_mut.result.now stream c.index_mut.ensures.value there c.args.vbs.now c.next_frame.new.vbs
+    (asked_began g.A.VbAccess.step g.J.Journals.asks _ c.args.self.now c.self.view_is c.args.quiet.now c.args.at c.index_mut.result.now stream c.index_mut.ensures.value there c.args.vbs.now c.args.disks.now c.next_frame.new.vbs c.next_frame.new.disks
     c.in_err-next.ensures.err)
 
 pub invariant_of-self-2 : goal.invariant_of-self-2
@@ -24,8 +24,8 @@ invariant_of-self-2 g c =
 pub returns-clause-err : goal.returns-clause-err
 returns-clause-err g c stream there =
     on_err c.put_next.result _
-    (asked_behind g.A.VbAccess.step _ c.args.self.now c.self.view_is c.args.quiet.now c.args.at c.index_mut.result.now stream c.index_mut.ensures.value there
-    c.in_ok-next.next c.next_frame.new.self c.args.vbs.now c.next_frame.new.vbs c.in_ok-next.ensures.ok)
+    (asked_behind g.A.VbAccess.step g.J.Journals.asks _ c.args.self.now c.self.view_is c.args.quiet.now c.args.at c.index_mut.result.now stream c.index_mut.ensures.value there
+    c.in_ok-next.next c.next_frame.new.self c.args.vbs.now c.args.disks.now c.next_frame.new.vbs c.next_frame.new.disks c.in_ok-next.ensures.ok)
 
 pub returns-in_err-next-clause-same : goal.returns-in_err-next-clause-same
 returns-in_err-next-clause-same g c =
@@ -35,8 +35,8 @@ pub returns-clause-ok : goal.returns-clause-ok
 returns-clause-ok g c stream there =
     let low = subst (λ s. c.args.at < length s.end.streams) (sym c.self.view_is) c.requires.there in
     if_ok c.put_next.result _ _
-    (λ put came. asked_ran g.A.VbAccess.step _ c.args.self.now c.self.view_is c.args.quiet.now c.args.at c.index_mut.result.now stream c.index_mut.ensures.value there
-    c.in_ok-next.next c.next_frame.new.self c.args.vbs.now c.next_frame.new.vbs (turn_of put (pull_of c.put_next.new.self c.put_next.new.quiet)) c.self.invariant.rise c.next_frame.ensures.same
+    (λ turned came. asked_ran g.A.VbAccess.step g.J.Journals.asks _ c.args.self.now c.self.view_is c.args.quiet.now c.args.at c.index_mut.result.now stream c.index_mut.ensures.value there
+    c.in_ok-next.next c.next_frame.new.self c.args.vbs.now c.args.disks.now c.next_frame.new.vbs c.next_frame.new.disks (turn_of turned (pull_of c.put_next.new.self c.put_next.new.quiet)) c.self.invariant.rise c.next_frame.ensures.same
     c.in_ok-next.ensures.ok came)
     (c.put_next.ensures.ok c.next_frame.new.self (get_set c.self.inside.streams.items c.args.at c.next_frame.new.self low))
 

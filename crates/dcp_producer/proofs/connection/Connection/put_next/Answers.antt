@@ -43,3 +43,6 @@ returns-in_ok-add-in-Quiet-clause-ok c stream there =
 
 pub returns-in_ok-add-in-Quiet-clause-same : goal.returns-in_ok-add-in-Quiet-clause-same
 returns-in_ok-add-in-Quiet-clause-same c = stays_same c.args.self.now.end c.args.self.now.end refl
+
+pub returns-in-Disk-clause-same : goal.returns-in-Disk-clause-same
+returns-in-Disk-clause-same c = stays_same c.args.self.now.end c.args.self.now.end refl

@@ -1,12 +1,13 @@
 use Rattle.std.specs.Prelude.{◌≡◌}
-use Rattle.vb_calls.specs.Programs.{Ran, repeated, More}
+use Rattle.vb_calls.specs.Jobs.{RanJob, repeated_job}
+use Rattle.vb_calls.specs.Programs.{More}
 use Rattle.dcp_producer.specs.Pulling.{pull_of, one_turn}
 use Rattle.dcp_producer.specs.Wanting.{Stays}
 use Rattle.dcp_producer.proofs.connection.Connection.put_one_frame.Given as goal
 
 abbrev pub invariant-loop-turn : goal.invariant-loop-turn
 invariant-loop-turn g l = record {
-  ran : Ran g.A.VbAccess.step (repeated l.turn one_turn (pull_of l.initial.self l.initial.quiet)) l.initial.vbs (More (pull_of l.self l.quiet)) l.vbs;
+  ran : RanJob g.A.VbAccess.step g.J.Journals.asks (repeated_job l.turn one_turn (pull_of l.initial.self l.initial.quiet)) l.initial.vbs l.initial.disks (More (pull_of l.self l.quiet)) l.vbs l.disks;
   count : l.self.count ≡ l.initial.self.count;
   window : l.self.end.window ≡ l.initial.self.end.window;
   resolved : l.self.resolved ≡ l.initial.self.resolved;
